@@ -1,0 +1,4 @@
+pub mod Powers
+pub mod ShapeLaws
+pub mod WorstLaws
+pub mod Costs
