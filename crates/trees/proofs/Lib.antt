@@ -2,3 +2,9 @@ pub mod Powers
 pub mod ShapeLaws
 pub mod WorstLaws
 pub mod Costs
+pub mod CostLaws
+pub mod SlopeLaws
+pub mod Shares
+pub mod ShareLaws
+pub mod SlopeTheorem
+pub mod PlaceLaws
