@@ -2,6 +2,7 @@ pub mod Powers
 pub mod ShapeLaws
 pub mod WorstLaws
 pub mod Costs
+pub mod SearchLaws
 pub mod CostLaws
 pub mod SlopeLaws
 pub mod Shares
