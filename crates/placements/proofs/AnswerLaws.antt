@@ -12,7 +12,7 @@ use Rattle.refusals.specs.declared.Refusal.{Refusal}
 use Rattle.refusals.specs.declared.Refusal.the-variants.{LeafList, ActiveCount}
 use Rattle.refusals.specs.Numbers.{verdictNumber, ask, andThen}
 use Rattle.refusals.proofs.Verdicts.{ask-granted, then-granted, number-some}
-use Rattle.trees.specs.Shape.{heightOf, treeVerdict, Tree}
+use Rattle.trees.specs.Shape.{treeVerdict, Tree}
 use Rattle.trees.proofs.ShapeLaws.{Grown, grown}
 use Rattle.trees.proofs.PlaceLaws.{Placed}
 use Rattle.trees.proofs.SearchLaws.{bare-cost}

@@ -20,17 +20,17 @@ pub enum Placement {
     Refused(Refusal),
 }
 
-// Share j of u times w leaves in m shares: the last w mod m of them have u more.
-fn equal_share(m: usize, u: usize, w: usize, j: usize) -> usize
-    requires { ⌜ (2 ≤ m) × (u ≤ 2) × (w ≤ 1024) ⌝ }
-    ensures { λ r. ⌜ (r ≡ equalShare m u w j) × (r ≤ 2050) ⌝ }
+// Share j of some units of one or two leaves in m shares: the last `units` mod m shares have a unit more.
+fn equal_share(m: usize, unit: usize, units: usize, j: usize) -> usize
+    requires { ⌜ (2 ≤ m) × (unit ≤ 2) × (units ≤ 1024) ⌝ }
+    ensures { λ r. ⌜ (r ≡ equalShare m unit units j) × (r ≤ 2050) ⌝ }
 {
-    let low = u * (w / m);
-    if m - w % m <= j { low + u } else { low }
+    let low = unit * (units / m);
+    if m - units % m <= j { low + unit } else { low }
 }
 
-// Share j of k leaves in m subtrees of `width` leaves: from two for each place on one leaf more saves a slot,
-// so any equal shares serve; below that pairs cost the most, and the odd leaf goes to share 0.
+// Share j of k leaves in m subtrees of `width` leaves. From twice the width on each further leaf saves a slot and
+// equal shares serve; below that pairs cost the most, and an odd leaf goes to share 0.
 fn share(m: usize, width: usize, k: usize, j: usize) -> usize
     requires { ⌜ (2 ≤ m) × (width ≤ 1024) × (k ≤ 1024) ⌝ }
     ensures { λ r. ⌜ r ≡ shareOf m width k j ⌝ }

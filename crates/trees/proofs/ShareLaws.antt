@@ -1,7 +1,7 @@
 -- The shares serve: they add up to k, each fits its tree, and their slots are those of the theorem on worst counts.
 use mathlib.Core.Path.{_≡_, refl, sym, ap, _∙_, subst}
 use mathlib.Core.Bool.{Bool, true, false}
-use mathlib.Core.List.{List, [], _∷_}
+use mathlib.Core.List.{List}
 use Prim.Native.Nat.{ℕ, zero, suc, _+_, _*_, _^_, _/_, _%_, _-_, _≤_, _<_, min, zero-le}
 use native.Mathlib.Nat.{sub-zero, zero-min, pow-zero, le-dest, one-le-pow, mul-div-right, mul-mod-right, div-add-mod, mod-lt, mul-le-mul-right, le-of-mul-le-mul-left, lt-of-mul-lt-mul-left, pow-succ', le-div-iff-mul-le, div-lt-iff-lt-mul, zero-mul}
 use native.Mathlib.Omega.{arith}

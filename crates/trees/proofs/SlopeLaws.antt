@@ -6,7 +6,7 @@
 --   slotsAll m n ps     the slots of several subtrees
 --   halves ks           the pairs in each part, an odd leaf left out
 --   even m n P          those of m subtrees whose P pairs are as equal as they can be
-use mathlib.Core.Path.{_≡_, refl, sym, ap, _∙_, subst}
+use mathlib.Core.Path.{_≡_, refl, sym, ap, subst}
 use mathlib.Core.List.{List, [], _∷_, map}
 use mathlib.Core.Logic.{_⊎_, inl, inr, ⊎-elim}
 use Prim.Native.Nat.{ℕ, zero, suc, _+_, _*_, _^_, _/_, _%_, _≤_, _<_, zero-le}
