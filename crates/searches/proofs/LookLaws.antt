@@ -10,7 +10,7 @@ use lib.ListN.{length, getD, take, drop, length-append, length-drop}
 use lib.Seq.{drop-cons, drop-length, take-suc, length-take-le, getD-drop}
 use borrow.Author.Tests.{le-leb, lt-leb}
 use Rattle.trees.specs.Search.{allBits, active, activeIn}
-use Rattle.trees.proofs.SearchLaws.{active-append}
+use Rattle.trees.proofs.LeafLaws.{active-append}
 use Rattle.searches.specs.declared.Seen.the-variants.{Nobody, One, Several}
 use Rattle.searches.specs.Work.{seenOf}
 

@@ -13,7 +13,8 @@ use Rattle.rows.proofs.LogLaws.{log-none, log-then}
 use Rattle.trees.specs.Shape.{nodes}
 use Rattle.trees.specs.Search.{children, visit, active, activeIn, bareRow, bareLook, bareRule, total, silent, colliding, silences, collisions}
 use Rattle.trees.proofs.Powers.{pow-inj, Below, below, child-inside}
-use Rattle.trees.proofs.SearchLaws.{total-append, part, part-length, length-active, ones-few, Told, told, AllTold, all-told, children-more, noded}
+use Rattle.trees.proofs.LeafLaws.{part, part-length, length-active, ones-le}
+use Rattle.trees.proofs.SearchLaws.{total-append, told, AllTold, all-told, children-more, noded}
 use Rattle.searches.specs.declared.Seen.the-variants.{Nobody, One, Several}
 use Rattle.searches.specs.declared.Tally.{Tally}
 use Rattle.searches.specs.Work.{seenOf, Wrote, VisitReady, Visited}
@@ -105,7 +106,7 @@ kept-first leaves m a v r₀ log₀ = (omega arith, refl, λ n e. wrote-none r�
 
 module _ (leaves log : List ℕ) (m a w : ℕ) (t : Tally) (pre : VisitReady leaves log m a w t) (hit : Several ≡ seenOf (activeIn leaves a w)) where
   pub wide : 2 ≤ w
-  wide = omega (arith, heard-two (activeIn leaves a w) hit, length-active a (part leaves a w), ones-few (part leaves a w), part-length leaves a w (pre .inside))
+  wide = omega (arith, heard-two (activeIn leaves a w) hit, length-active a (part leaves a w), ones-le (part leaves a w), part-length leaves a w (pre .inside))
 
   pub under : Below m (pre .height) w
   under = below m (pre .height) w (pre .branches) wide (pre .width)

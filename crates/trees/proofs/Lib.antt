@@ -1,6 +1,14 @@
 pub mod Powers
 pub mod ShapeLaws
-pub mod WorstLaws
+pub mod LeafLaws
 pub mod Costs
 pub mod SearchLaws
 pub mod WireLaws
+pub mod WorstLaws
+pub mod CostLaws
+pub mod SlopeLaws
+pub mod Shares
+pub mod ShareLaws
+pub mod SlopeTheorem
+pub mod PlaceLaws
+pub mod Demand3

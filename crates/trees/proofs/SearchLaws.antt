@@ -12,6 +12,7 @@ use Rattle.rows.specs.declared.Channel.{Channel}
 use Rattle.rows.specs.declared.Channel.the-variants.{Silence, Busy, Collision}
 use Rattle.trees.specs.Shape.{nodes}
 use Rattle.trees.specs.Search.{Look, lead, children, visit, ones, active, activeIn, bareLook, bareRule, searchRows, total, silent, colliding, lost, silences, collisions, cost, sentBy, sent}
+use Rattle.trees.proofs.LeafLaws.{part, part-length, part-split, length-active, active-split, ones-le}
 use Rattle.trees.proofs.Costs.{costFor, partsCost, partCost}
 
 -- ---- rows, one run behind the other
@@ -38,38 +39,6 @@ lost-both Collision = refl
 pub cost-both : (rows : List Row) → cost rows ≡ silences rows + collisions rows
 cost-both [] = refl
 cost-both (r ∷ rows) = omega (arith, lost-both (r .state), cost-both rows)
-
--- ---- parts of the leaves
-
--- the leaves of the subtree of w leaves from leaf a on
-abbrev pub part : List ℕ → ℕ → ℕ → List ℕ
-part leaves a w = take w (drop a leaves)
-
-pub part-length : (leaves : List ℕ) (a w : ℕ) → a + w ≤ length leaves → length (part leaves a w) ≡ w
-part-length leaves a w h = length-take-le w (drop a leaves) (omega (arith, length-drop a leaves))
-
-pub part-split : (leaves : List ℕ) (a w x : ℕ) → part leaves a (w + x) ≡ part leaves a w ++ part leaves (a + w) x
-part-split leaves a w x = take-add w x (drop a leaves) ∙ ap (λ (l : List ℕ). part leaves a w ++ take x l) (drop-drop w a leaves)
-
-pub length-active : (a : ℕ) (s : List ℕ) → length (active a s) ≡ ones s
-length-active a [] = refl
-length-active a (zero ∷ s) = length-active (suc a) s
-length-active a (suc b ∷ s) = ap suc (length-active (suc a) s)
-
-pub ones-few : (s : List ℕ) → ones s ≤ length s
-ones-few [] = le-refl 0
-ones-few (zero ∷ s) = omega (arith, ones-few s)
-ones-few (suc b ∷ s) = omega (arith, ones-few s)
-
-pub active-append : (a : ℕ) (s u : List ℕ) → active a (s ++ u) ≡ active a s ++ active (a + length s) u
-active-append a [] u = ap (λ (b : ℕ). active b u) (sym (add-zero a))
-active-append a (zero ∷ s) u = active-append (suc a) s u ∙ ap (λ (b : ℕ). active (suc a) s ++ active b u) (omega arith)
-active-append a (suc x ∷ s) u = ap {B = List ℕ} (λ l. a ∷ l) (active-append (suc a) s u ∙ ap (λ (b : ℕ). active (suc a) s ++ active b u) (omega arith))
-
-pub active-split : (leaves : List ℕ) (a w x : ℕ) → a + w ≤ length leaves → activeIn leaves a (w + x) ≡ activeIn leaves a w ++ activeIn leaves (a + w) x
-active-split leaves a w x h =
-    ap (active a) (part-split leaves a w x) ∙ active-append a (part leaves a w) (part leaves (a + w) x)
-    ∙ ap (λ (n : ℕ). activeIn leaves a w ++ active (a + n) (part leaves (a + w) x)) (part-length leaves a w h)
 
 -- ---- a visit
 
@@ -153,7 +122,7 @@ leaf-told leaves m a slot (p ∷ []) e = record {
   costs = rw pow-zero (ap (λ (k : ℕ). costFor k 0) (sym (ones-are leaves a 1 (p ∷ []) e)));
 }
 leaf-told leaves m a slot (p ∷ q ∷ l) e =
-    absurd (omega (arith, ones-are leaves a 1 (p ∷ q ∷ l) e, ones-few (part leaves a 1), length-take 1 (drop a leaves)))
+    absurd (omega (arith, ones-are leaves a 1 (p ∷ q ∷ l) e, ones-le (part leaves a 1), length-take 1 (drop a leaves)))
 
 -- a slot, and after a collision the children
 abbrev pub noded : List ℕ → ℕ → ℕ → ℕ → ℕ → List ℕ → List Row × ℕ

@@ -15,7 +15,7 @@ use Rattle.trees.specs.Shape.{nodes}
 use Rattle.trees.specs.Search.{Look, Rule, lead, children, visit, activeIn, bareLook, bareRule, searchRows}
 use Rattle.trees.specs.Wire.{nextHeight, nextWidth, walk}
 use Rattle.trees.proofs.Powers.{le-or-lt, pow-dvd}
-use Rattle.trees.proofs.SearchLaws.{part, length-active, ones-few}
+use Rattle.trees.proofs.LeafLaws.{part, length-active, ones-le}
 
 -- ---- the largest power that divides
 
@@ -219,5 +219,5 @@ bare-leaf leaves slot a (p ∷ q ∷ l) h = absurd (omega arith)
 pub search-wire : (m n : ℕ) (leaves : List ℕ) (k : ℕ) → 2 ≤ m → nodes m n ≤ k → walk (bareRule leaves) m n k 0 (m ^ n) 0 .0 ≡ searchRows m n leaves
 search-wire m n leaves k h few = ap (λ (r : List Row × ℕ). r .0)
     (wire-agrees (bareRule leaves) m n h
-    (λ slot a. bare-leaf leaves slot a (activeIn leaves a 1) (omega (arith, length-active a (part leaves a 1), ones-few (part leaves a 1), length-take 1 (drop a leaves))))
+    (λ slot a. bare-leaf leaves slot a (activeIn leaves a 1) (omega (arith, length-active a (part leaves a 1), ones-le (part leaves a 1), length-take 1 (drop a leaves))))
     0 k few)

@@ -2,3 +2,4 @@ pub mod Shape
 pub mod Search
 pub mod Wire
 pub mod Worst
+pub mod Claims

@@ -11,9 +11,10 @@
 --   searchRows m n ls   the log of a bare search of the tree of height n
 --   total f rows        f of each row's state, added up: silences, collisions, and cost, which is both
 --   sent rows           what was sent, in the order of the rows
+--   Ascending b l       the numbers of l lie at or above b and each is above the one before it
 use mathlib.Core.Bool.{Bool, true, false, _&&_}
 use mathlib.Core.List.{List, [], _∷_, _++_}
-use Prim.Native.Nat.{ℕ, zero, suc, _+_, _^_}
+use Prim.Native.Nat.{ℕ, zero, suc, _+_, _^_, _≤_}
 use lib.Dec.{leb}
 use lib.ListN.{take, drop}
 use Rattle.rows.specs.declared.Row.{Row}
@@ -128,3 +129,8 @@ sentBy Collision p l = l
 abbrev pub sent : List Row → List ℕ
 sent [] = []
 sent (r ∷ rs) = sentBy (r .state) (r .message) (sent rs)
+
+-- each number above the one before it, so none stands twice
+abbrev pub Ascending : ℕ → List ℕ → Type 0
+Ascending b [] = Unit {0}
+Ascending b (p ∷ l) = (b ≤ p) × Ascending (suc p) l
