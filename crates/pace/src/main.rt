@@ -1,6 +1,7 @@
 // Pace: one public call, a thousand times over, for bench/trees to time (docs/PERFORMANCE.md).
 // The first byte of standard input picks the job. What is printed is a sum over the answers, 0 where a call refused.
-// Each kind of job has several trees, so that no call is compiled for the numbers of one.
+// Each kind of job has several trees, so that no recursive function is compiled for the numbers of one; the checks
+// that come first in a call may be.
 // Uses searches, counts and placements.
 use counts::Count;
 use placements::Placement;
