@@ -3,7 +3,7 @@
 --   All list            each statement of the list holds
 --   countsUpTo m t k    the answers to the worst counts of 0 to k active leaves
 --   places rows         first leaf and width of each row
---   examples            the starred examples, in document 01's order
+--   examples            the starred examples, in the order of docs/RULES.md, section 7
 --   starred             all of them hold
 use mathlib.Core.Path.{_≡_, refl}
 use mathlib.Core.List.{List, [], _∷_, _++_, map}
