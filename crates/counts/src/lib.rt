@@ -138,7 +138,7 @@ fn count_verdict(m: u32, t: u32, k: u32) -> Verdict
 {
     let tree = trees::tree_verdict(m, t);
     match tree {
-        Verdict::Refused(reason) => Verdict::Refused(reason),
+        Verdict::Refused(refusal) => Verdict::Refused(refusal),
         Verdict::Granted => {
             if k <= t {
                 Verdict::Granted
@@ -169,7 +169,7 @@ pub fn worst_count(m: u32, t: u32, k: u32) -> Count
 {
     let verdict = count_verdict(m, t, k);
     match verdict {
-        Verdict::Refused(reason) => Count::Refused(reason),
+        Verdict::Refused(refusal) => Count::Refused(refusal),
         Verdict::Granted => Count::Worst(granted_count(m as usize, t as usize, k as usize)),
     }
 }

@@ -1,4 +1,4 @@
--- A placement that costs the worst count, and the answer of the call that writes it (docs/RULES.md, section 6).
+-- A placement that costs the worst count, and the answer of the call that writes it (docs/RULES.md, sections 2 and 6).
 --
 --   placementVerdict m t k len   refusals 1, 2, 3 and 5 for k active leaves in a list of len bytes, the first in this order
 --   figures answer               the refusal's number, 0 for none

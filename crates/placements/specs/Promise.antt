@@ -1,5 +1,7 @@
--- What `place` promises for every input (docs/RULES.md, section 6), and what that fixes for one input: the answer, the list on a
--- refusal, and else the list's length, its active leaves and its cost. Which leaves are active is left to the builder.
+-- What `place` promises for every input (docs/RULES.md, sections 2 and 6), and what that fixes for one input: the answer, the list
+-- on a refusal, and else the list's length, that its bytes are 0 or 1, the number of ones and the cost. Which leaves are
+-- active is left to the builder.
+use mathlib.Core.Bool.{true}
 use mathlib.Core.List.{List}
 use mathlib.Core.Path.{_≡_, refl, sym, ap, _∙_}
 use Prim.Native.Nat.{ℕ, _^_}
@@ -10,7 +12,7 @@ use Rattle.refusals.specs.Numbers.{verdictNumber}
 use Rattle.refusals.proofs.Verdicts.{then-granted, number-tells, number-some}
 use Rattle.trees.specs.Shape.{heightOf, treeVerdict}
 use Rattle.trees.proofs.ShapeLaws.{Grown, grown}
-use Rattle.trees.specs.Search.{ones, searchRows, cost}
+use Rattle.trees.specs.Search.{allBits, ones, searchRows, cost}
 use Rattle.placements.specs.declared.Placement.{Placement}
 use Rattle.placements.specs.declared.Placement.the-variants.{Placed, Refused}
 use Rattle.placements.specs.Answer.{placementVerdict, figures, Costly}
@@ -35,10 +37,10 @@ module _ (m t k : ℕ) (before : List ℕ) (a b : Placement) (xs ys : List ℕ) 
   same-refused h = p .kept h ∙ sym (q .kept h)
 
   pub same-worth : placementVerdict m t k (length before) ≡ Granted
-      → (length xs ≡ t) × (length ys ≡ t) × (ones xs ≡ k) × (ones ys ≡ k) × (cost (searchRows m (heightOf m t) xs) ≡ cost (searchRows m (heightOf m t) ys))
+      → (length xs ≡ t) × (length ys ≡ t) × (allBits xs ≡ true) × (allBits ys ≡ true) × (ones xs ≡ k) × (ones ys ≡ k) × (cost (searchRows m (heightOf m t) xs) ≡ cost (searchRows m (heightOf m t) ys))
   same-worth g =
       let x = p .placed g in
       let y = q .placed g in
       let tree : Grown m t = grown m t (then-granted (treeVerdict m t) _ g .0) in
       let all : m ^ heightOf m t ≡ t = rw (tree .height) (sym (tree .leaves)) in
-      (x .count ∙ all, y .count ∙ all, x .active, y .active, x .costs ∙ sym (y .costs))
+      (x .count ∙ all, y .count ∙ all, x .bits, y .bits, x .active, y .active, x .costs ∙ sym (y .costs))

@@ -83,7 +83,7 @@ fn placement_verdict(m: u32, t: u32, k: u32, len: usize) -> Verdict
 {
     let tree = trees::tree_verdict(m, t);
     match tree {
-        Verdict::Refused(why) => Verdict::Refused(why),
+        Verdict::Refused(refusal) => Verdict::Refused(refusal),
         Verdict::Granted => {
             if len != t as usize {
                 Verdict::Refused(Refusal::LeafList)
@@ -102,7 +102,7 @@ pub fn place(m: u32, t: u32, k: u32, leaves: &mut [u8]) -> Placement
 {
     let verdict = placement_verdict(m, t, k, leaves.len());
     match verdict {
-        Verdict::Refused(why) => Placement::Refused(why),
+        Verdict::Refused(refusal) => Placement::Refused(refusal),
         Verdict::Granted => {
             fill_tree(m as usize, t as usize, k as usize, leaves);
             Placement::Placed

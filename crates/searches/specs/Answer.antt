@@ -9,7 +9,7 @@ use Prim.Native.Nat.{ℕ}
 use lib.Dec.{leb, eqb}
 use lib.ListN.{length}
 use Rattle.refusals.specs.declared.Verdict.{Verdict}
-use Rattle.refusals.specs.declared.Verdict.the-variants.{Granted, Refused as Sent}
+use Rattle.refusals.specs.declared.Verdict.the-variants.{Granted, Refused as Denied}
 use Rattle.refusals.specs.declared.Refusal.the-variants.{LeafList, LeafByte, LogRoom}
 use Rattle.refusals.specs.Numbers.{numberOf, ask, andThen}
 use Rattle.rows.specs.declared.Row.{Row}
@@ -36,7 +36,7 @@ figures (Refused r) = (numberOf r, 0, 0, 0)
 -- by the verdict: the figures of the rows, or the refusal's number with every other figure 0
 abbrev pub figuresBy : Verdict → List Row → ℕ × ℕ × ℕ × ℕ
 figuresBy Granted rows = (0, length rows, silences rows, collisions rows)
-figuresBy (Sent r) rows = (numberOf r, 0, 0, 0)
+figuresBy (Denied r) rows = (numberOf r, 0, 0, 0)
 
 -- what a search answers
 abbrev pub searchFigures : ℕ → ℕ → List ℕ → ℕ → ℕ × ℕ × ℕ × ℕ
@@ -45,7 +45,7 @@ searchFigures m t leaves room = figuresBy (searchVerdict m t leaves room) (searc
 -- by the verdict: the rows from the log's start on and the rest as it was, or all of it as it was
 abbrev pub logBy : Verdict → List Row → List ℕ → List ℕ
 logBy Granted rows log = over log 0 (logBytes rows)
-logBy (Sent r) rows log = log
+logBy (Denied r) rows log = log
 
 -- what a search leaves
 abbrev pub searchLog : ℕ → ℕ → List ℕ → List ℕ → List ℕ

@@ -1,4 +1,5 @@
--- What the bare search promises, whatever numbers and lists it is given.
+-- What the bare search promises, whatever numbers and lists it is given (docs/RULES.md, sections 2 and 5).
+-- The leaves are lent to be read only, so that they stay as they were needs no words.
 --
 --   SearchPromise m t leaves log answer log'   the answer's figures and the whole log at exit are the definition's
 --   one-result                                 two results that the promise allows for one input are equal

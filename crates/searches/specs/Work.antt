@@ -1,4 +1,5 @@
--- What the functions behind the bare search ask of each other and leave. No promise to a caller speaks of these.
+-- What the functions behind the bare search (docs/RULES.md, section 5) ask of each other and leave. No promise to a
+-- caller speaks of these.
 --
 --   seenOf active                      what the wire tells of a subtree with these active leaves
 --   Wrote t log rows r log'            the rows were written behind those of the tally t, and r is the tally after them

@@ -171,7 +171,8 @@ fn visit(leaves: &[u8], log: &mut [u8], m: usize, a: usize, w: usize, t: Tally) 
     }
 }
 
-// A bare search from the root: every slot's row in the log, and how many there were; or a refusal, and the log as it came.
+// A bare search from the root: every slot's row in the log, and how many there were; or a refusal, and the log as it
+// came.
 pub fn search(m: u32, t: u32, leaves: &[u8], log: &mut [u8]) -> Found
     ensures { λ r. ⌜ SearchPromise m t (now (leaves .entry)) (now (log .entry)) r (now (log .exit)) ⌝ }
 {

@@ -30,6 +30,7 @@ attained m n k h le =
     record {
       leaves = p .0;
       size = p .1 .leaves;
+      bits = p .1 .bits;
       active = p .1 .active;
       costs = omega (arith, cost-both (searchRows m n (p .0)), bare-cost m n (p .0) (p .1 .leaves), p .1 .costs);
     }

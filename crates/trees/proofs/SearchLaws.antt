@@ -174,6 +174,3 @@ search-sent m n leaves e = told leaves m n 0 0 (omega arith) .sends ∙ ap (acti
 
 pub bare-cost : (m n : ℕ) (leaves : List ℕ) → length leaves ≡ m ^ n → cost (searchRows m n leaves) ≡ partCost m n leaves
 bare-cost m n leaves e = told leaves m n 0 0 (omega arith) .costs ∙ ap (partCost m n) (whole m n leaves e)
-
-pub search-count : (m n : ℕ) (leaves : List ℕ) → length leaves ≡ m ^ n → length (searchRows m n leaves) ≤ nodes m n
-search-count m n leaves e = told leaves m n 0 0 (omega arith) .count

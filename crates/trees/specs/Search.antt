@@ -92,16 +92,19 @@ abbrev pub total : (Channel → ℕ) → List Row → ℕ
 total f [] = 0
 total f (r ∷ rs) = f (r .state) + total f rs
 
+-- 1 for a silent slot
 abbrev pub silent : Channel → ℕ
 silent Silence = 1
 silent Busy = 0
 silent Collision = 0
 
+-- 1 for a colliding slot
 abbrev pub colliding : Channel → ℕ
 colliding Silence = 0
 colliding Busy = 0
 colliding Collision = 1
 
+-- 1 for a slot in which nothing is sent
 abbrev pub lost : Channel → ℕ
 lost Silence = 1
 lost Busy = 0

@@ -1,6 +1,6 @@
 -- The shape of a tree: m branches at every node, t = m ^ n leaves (docs/RULES.md, section 3).
 --
---   heightOf m t        the n from 1 on with t = m ^ n, where t is at most 1,024; 0 where there is none
+--   heightOf m t        for m from 2 on, the n from 1 on with t = m ^ n, where t is at most 1,024; 0 where there is none
 --   treeVerdict m t     refusals 1 and 2
 --   nodes m n           how many nodes the tree of height n has
 --   rowsRoom m t        bytes for a row of each node, as the refusal of a short log has it

@@ -38,6 +38,17 @@ Inv-loop leaves log₀ m a w r₀ v j₀ log r j = Kept leaves m a v r₀ log₀
 abbrev μ-loop : visit-lts.MeasureT-loop
 μ-loop leaves log₀ m a w r₀ v j₀ log r j = m - j
 
+returns-3 : (t : ℕ) → visit-lts.Need-returns-3 (calls t) (visit-at t) visit.Post Inv-loop μ-loop
+returns-3 t c =
+    let l = c .before .loop in
+    let k = c .before .before in
+    let note = k .before .before .note3 in
+    let start = k .before .before .before .before .before .before .before .before .before in
+    let s = start .args in
+    let hit = sym (k .before .before .before .before .enum-told2 .given .1) ∙ k .before .before .before .before .before .before .look .ensures in
+    kept-all (s .leaves .now) (s .log .now) (s .m) (s .a) (s .w) (s .t) (start .pre .1) hit (note .result) (note .last .0) (note .kept .0) (note .ensures)
+    (l .j) (l .r) (l .log) (c .loop-test .left) (l .inv)
+
 note-requires : (t : ℕ) → visit-lts.Need-note-requires (calls t) (visit-at t) visit.Post Inv-loop μ-loop
 note-requires t c κs =
     let start = c .before .before .before .before .before .before in
@@ -62,7 +73,7 @@ mul-visit t c =
     let start = k .before .before .before .before .before .before .before .before .before in
     let s = start .args in
     let hit = sym (k .before .before .before .before .enum-told2 .given .1) ∙ k .before .before .before .before .before .before .look .ensures in
-    omega (arith, child (s .leaves .now) (s .log .now) (s .m) (s .a) (s .w) (s .t) (start .pre .1) hit (c .before .before .loop .j) (c .before .loop-test .taken), start .fits .w)
+    omega (arith, child (s .leaves .now) (s .log .now) (s .m) (s .a) (s .w) (s .t) (start .pre .1) hit (c .before .before .loop .j) (omega (arith, c .before .loop-test .taken)), start .fits .w)
 
 add-visit : (t : ℕ) → visit-lts.Need-add-visit (calls t) (visit-at t) visit.Post Inv-loop μ-loop
 add-visit t c =
@@ -70,7 +81,7 @@ add-visit t c =
     let start = k .before .before .before .before .before .before .before .before .before in
     let s = start .args in
     let hit = sym (k .before .before .before .before .enum-told2 .given .1) ∙ k .before .before .before .before .before .before .look .ensures in
-    omega (arith, child (s .leaves .now) (s .log .now) (s .m) (s .a) (s .w) (s .t) (start .pre .1) hit (c .before .before .loop .j) (c .before .loop-test .taken), start .pre .1 .inside, start .pre .1 .few)
+    omega (arith, child (s .leaves .now) (s .log .now) (s .m) (s .a) (s .w) (s .t) (start .pre .1) hit (c .before .before .loop .j) (omega (arith, c .before .loop-test .taken)), start .pre .1 .inside, start .pre .1 .few)
 
 visit-requires : (t : ℕ) → visit-lts.Need-visit-requires (calls t) (visit-at t) visit.Post Inv-loop μ-loop
 visit-requires t c κs =
@@ -97,7 +108,7 @@ loop-again t c =
     let s = start .args in
     let hit = sym (k .before .before .before .before .enum-told2 .given .1) ∙ k .before .before .before .before .before .before .look .ensures in
     kept-next (s .leaves .now) (s .log .now) (s .m) (s .a) (s .w) (s .t) (start .pre .1) hit (note .result) (note .last .0) (note .kept .0) (note .ensures)
-    (l .j) (l .r) (v .result) (l .log) (v .last .1 .0) (c .before .before .before .before .loop-test .taken) (v .kept .1 .0) (l .inv) (v .ensures)
+    (l .j) (l .r) (v .result) (l .log) (v .last .1 .0) (omega (arith, c .before .before .before .before .loop-test .taken)) (v .kept .1 .0) (l .inv) (v .ensures)
 
 returns : (t : ℕ) → visit-lts.Need-returns (calls t) (visit-at t) visit.Post Inv-loop μ-loop
 returns t c =
@@ -117,17 +128,6 @@ returns-2 t c =
     let one = heard-leaf leaf (activeIn (s .leaves .now) (s .a) (s .w)) (sym (seen .seen .given .1) ∙ seen .before .before .look .ensures) in
     λ n e. subst (λ (rows : List Row). Wrote (s .t) (s .log .now) rows (note .result) (note .last .0))
     (sym (rows-quiet (s .leaves .now) (s .m) n (s .a) (s .w) (s .t .rows) (leaf ∷ []) e one (omega arith))) (note .ensures)
-
-returns-3 : (t : ℕ) → visit-lts.Need-returns-3 (calls t) (visit-at t) visit.Post Inv-loop μ-loop
-returns-3 t c =
-    let l = c .before .loop in
-    let k = c .before .before in
-    let note = k .before .before .note3 in
-    let start = k .before .before .before .before .before .before .before .before .before in
-    let s = start .args in
-    let hit = sym (k .before .before .before .before .enum-told2 .given .1) ∙ k .before .before .before .before .before .before .look .ensures in
-    kept-all (s .leaves .now) (s .log .now) (s .m) (s .a) (s .w) (s .t) (start .pre .1) hit (note .result) (note .last .0) (note .kept .0) (note .ensures)
-    (l .j) (l .r) (l .log) (c .loop-test .left) (l .inv)
 
 pub +visit-spec : {M : Type 1} → statement M
 +visit-spec = close μ-visit λ t. visit-lts.spec (calls t)
