@@ -4,17 +4,18 @@ use mathlib.Core.Bool.{Bool, true, false}
 use mathlib.Core.List.{List, [], _∷_, _++_, append-assoc, append-nil}
 use mathlib.Core.Logic.{⊎-elim}
 use Prim.Native.Nat.{ℕ, zero, suc, _+_, _*_, _^_, _/_, _%_, _∣_, _≤_, _<_, pred}
-use native.Mathlib.Nat.{le-refl, le-dest, zero-mul, suc-mul, pow-zero, pow-succ', mul-div-right, not-suc-le-zero, suc-pred-eq-of-pos, one-le-pow, mul-le-mul-right}
+use native.Mathlib.Nat.{le-refl, le-dest, zero-mul, suc-mul, pow-zero, pow-succ', mul-div-right, not-suc-le-zero, suc-pred-eq-of-pos, one-le-pow, mul-le-mul-right, div-lt-self}
 use native.Mathlib.Nat.{dvd-of-mod-eq-zero, mod-eq-zero-of-dvd, dvd-mul-left, dvd-trans, dvd-add, dvd-add-iff-right, dvd-of-mul-dvd-mul-right, le-of-dvd, dvd-zero}
 use native.Mathlib.Omega.{arith}
 use lib.Dec.{ltb, eqb}
 use lib.ListN.{length, drop, length-take}
-use borrow.Author.Tests.{lt-ltb, le-ltb, eqb-true, eqb-false}
+use borrow.Author.Tests.{lt-ltb, le-ltb, eqb-true, eqb-false, eq-eqb, ne-eqb}
 use Rattle.rows.specs.declared.Row.{Row}
-use Rattle.trees.specs.Shape.{nodes}
+use Rattle.trees.specs.Shape.{heightOf, nodes, Tree}
 use Rattle.trees.specs.Search.{Look, Rule, lead, children, visit, activeIn, bareLook, bareRule, searchRows}
 use Rattle.trees.specs.Wire.{nextHeight, nextWidth, walk}
-use Rattle.trees.proofs.Powers.{le-or-lt, pow-dvd}
+use Rattle.trees.proofs.Powers.{le-or-lt, pow-dvd, under, power}
+use Rattle.trees.proofs.ShapeLaws.{height-complete}
 use Rattle.trees.proofs.LeafLaws.{part, length-active, ones-le}
 
 -- ---- the largest power that divides
@@ -71,6 +72,46 @@ next-child m n h a i hm hn da hi him =
     let dm : m * w ∣ i * w = subst (λ (y : ℕ). y ∣ i * w) (pow-succ' m h) di in
     let le : m ≤ i = le-of-dvd hi (dvd-of-mul-dvd-mul-right m pos dm) in
     absurd (omega arith)))
+
+-- ---- the powers tried from the largest on
+
+-- w is a power below the tree's, and every larger one was tried in vain
+pub record Trying (m n b w : ℕ) : Type 0 where
+  pub height : ℕ
+  pub power : w ≡ m ^ height
+  pub rest : nextHeight m (suc height) b ≡ nextHeight m n b
+
+pub trying-first : (m t b : ℕ) → Tree m t → 2 ≤ t → Trying m (heightOf m t) b (t / m)
+trying-first m t b tree more =
+    let u = under m t tree more in
+    record {
+      height = u .under;
+      power = u .width;
+      rest = ap (λ (n : ℕ). nextHeight m n b) (sym (height-complete m t (u .under) (tree .branches) (sym (power m t tree more (u .under) (u .width))) (tree .few)));
+    }
+
+pub trying-some : (m n b w : ℕ) → 2 ≤ m → Trying m n b w → 0 < w
+trying-some m n b w h r = omega (arith, r .power, one-le-pow (r .height) m (omega arith))
+
+next-test : (m h b : ℕ) (t : Bool) → eqb (b % (m ^ h)) 0 ≡ t → nextHeight m (suc h) b ≡ elim t [ true ↦ h | false ↦ nextHeight m h b ]
+next-test m h b t e = rw (e, nextHeight) refl
+
+pub trying-found : (m n b w : ℕ) → b % w ≡ 0 → Trying m n b w → w ≡ nextWidth m n b
+trying-found m n b w e r =
+    let d : b % (m ^ r .height) ≡ 0 = rw (r .power) at e in
+    r .power ∙ ap (λ (h : ℕ). m ^ h) (sym (next-test m (r .height) b true (eq-eqb (b % (m ^ r .height)) 0 d)) ∙ r .rest)
+
+-- one power smaller, and still above none
+pub trying-next : (m n b w : ℕ) → 2 ≤ m → (b % w ≡ 0 → ⊥) → Trying m n b w → Trying m n b (w / m) × (w / m < w)
+trying-next m n b w h ne r = go (r .height) (r .power) (r .rest)
+  where
+    go : (x : ℕ) → w ≡ m ^ x → nextHeight m (suc x) b ≡ nextHeight m n b → Trying m n b (w / m) × (w / m < w)
+    go zero p q = absurd (ne (let one : w ≡ 1 = p ∙ pow-zero m in rw one (omega arith)))
+    go (suc x) p q =
+        let f : w / m ≡ m ^ x = ap (λ (y : ℕ). y / m) (p ∙ pow-succ' m x) ∙ mul-div-right (m ^ x) (omega arith) in (
+          record { height = x; power = f; rest = sym (next-test m (suc x) b false (ne-eqb (b % (m ^ suc x)) 0 (λ e. ne (rw p e)))) ∙ q },
+          div-lt-self (trying-some m n b w h r) h,
+        )
 
 -- ---- the walk
 

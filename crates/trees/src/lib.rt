@@ -11,7 +11,8 @@ use refusals::Verdict;
 ghost use mathlib.Core.Path.{_≡_};
 ghost use Prim.Native.Nat.{_≤_};
 ghost use lib.Dec.{ltb};
-ghost use Rattle.trees.specs.Shape.{heightOf, treeVerdict};
+ghost use Rattle.trees.specs.Shape.{heightOf, treeVerdict, Tree};
+ghost use Rattle.trees.specs.Wire.{nextWidth};
 
 // No tree has more leaves.
 pub const LEAVES_MAX: u32 = 1024;
@@ -46,4 +47,16 @@ pub fn tree_verdict(m: u32, t: u32) -> Verdict
     } else {
         Verdict::Refused(Refusal::LeafCount)
     }
+}
+
+// The width of the subtree that starts at b, where another ended: the largest power of m below t that divides b.
+pub fn next_width(m: u32, t: u32, b: u32) -> u32
+    requires { ⌜ Tree m t × (2 ≤ t) ⌝ }
+    ensures { λ r. ⌜ r ≡ nextWidth m (heightOf m t) b ⌝ }
+{
+    let mut width = t / m;
+    while b % width != 0 {
+        width = width / m;
+    }
+    width
 }
