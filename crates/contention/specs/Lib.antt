@@ -1,0 +1,2 @@
+pub mod Contenders
+pub mod Work
