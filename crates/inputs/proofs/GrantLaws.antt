@@ -1,0 +1,115 @@
+-- What a granted run may rely on.
+use mathlib.Core.Path.{_≡_, refl}
+use mathlib.Core.Bool.{Bool, true, false, _&&_, _||_}
+use mathlib.Core.List.{List, [], _∷_}
+use Prim.Native.Nat.{ℕ, zero, suc, _*_, _≤_, _<_}
+use native.Mathlib.Omega.{arith}
+use lib.Dec.{ltb, leb, eqb}
+use lib.ListN.{length}
+use borrow.Author.Tests.{ltb-true, leb-true, eqb-true}
+use Rattle.refusals.specs.declared.Refusal.the-variants.{Stations, ClassNumbers, IndexTable, Messages, Budget, LogRoom}
+use Rattle.refusals.specs.declared.Verdict.the-variants.{Granted}
+use Rattle.refusals.specs.Numbers.{within}
+use Rattle.refusals.proofs.Verdicts.{ask-granted, then-granted, within-true}
+use Rattle.trees.specs.Shape.{treeVerdict}
+use Rattle.trees.proofs.ShapeLaws.{grown}
+use Rattle.messages.specs.declared.Message.{Message}
+use Rattle.messages.specs.Lists.{listed, SameLength, Timed, TimedList}
+use Rattle.messages.proofs.ListLaws.{length-listed}
+use Rattle.phases.specs.declared.Shop.{Shop}
+use Rattle.phases.specs.Work.{Grown, Sound}
+use Rattle.inputs.specs.Inputs.{classNumbers, isOwner, areOwners, tableFits, messageFits, allFit, messagesFit, sameLengths, shopVerdict, runVerdict, tableOf, SmallOwners}
+use Rattle.inputs.proofs.TestLaws.{both, same-length}
+use Rattle.inputs.proofs.TableLaws.{length-table}
+
+-- ---- a tree, an owner, a message
+
+granted-tree : (m t : ℕ) → treeVerdict m t ≡ Granted → Grown m t
+granted-tree m t e = let g = grown m t e in record { tree = g .tree; under = g .under; height = g .height }
+
+small-owner : (z o : ℕ) → z ≤ 32 → isOwner z o ≡ true → o ≤ 255
+small-owner z o h e = go (ltb o z) refl e
+  where
+    go : (b : Bool) → ltb o z ≡ b → (b || eqb o 255) ≡ true → o ≤ 255
+    go true q f = let k : o < z = ltb-true o z q in omega arith
+    go false q f = let k : o ≡ 255 = eqb-true o 255 f in omega arith
+
+small-owners : (z : ℕ) (owners : List ℕ) → z ≤ 32 → areOwners z owners ≡ true → SmallOwners owners
+small-owners z [] h e i = omega arith
+small-owners z (o ∷ owners) h e zero = small-owner z o h (both (isOwner z o) (areOwners z owners) e .0)
+small-owners z (o ∷ owners) h e (suc i) = small-owners z owners h (both (isOwner z o) (areOwners z owners) e .1) i
+
+timed-message : (z : ℕ) (m : Message) → messageFits z m ≡ true → Timed m
+timed-message z m e =
+    let a = both (ltb (m .station) z) _ e in
+    let b = both (leb (m .arrival) 1000000000) _ (a .1) in
+    let c = both (within 1 1000000000 (m .relative)) _ (b .1) in
+    record {
+      arrives = leb-true _ _ (b .0);
+      lasts = within-true 1 1000000000 (m .relative) (c .0) .1;
+      short = within-true 1 1000 (m .length) (c .1) .1;
+    }
+
+timed-list : (z : ℕ) (ms : List Message) → allFit z ms ≡ true → TimedList ms
+timed-list z [] e i h = absurd (omega arith)
+timed-list z (m ∷ ms) e zero h = timed-message z m (both (messageFits z m) (allFit z ms) e .0)
+timed-list z (m ∷ ms) e (suc i) h = timed-list z ms (both (messageFits z m) (allFit z ms) e .1) i (omega arith)
+
+-- ---- the run
+
+pub record Allowed (S : Shop) (owners stations arrivals relatives lengths sent : List ℕ) (budget bytes : ℕ) : Type 0 where
+  pub sound : Sound S
+  pub owners-few : length owners ≤ 1024
+  pub owners-small : SmallOwners owners
+  pub table-long : length (tableOf owners) ≡ 1024
+  pub long : SameLength stations arrivals relatives lengths sent
+  pub timed : TimedList (listed stations arrivals relatives lengths sent)
+  pub some-budget : 1 ≤ budget
+  pub few : budget ≤ 1000000
+  pub room : 16 * budget ≤ bytes
+
+pub allowed : (S : Shop) (owners stations arrivals relatives lengths sent : List ℕ) (budget bytes : ℕ)
+    → runVerdict S owners (sameLengths stations arrivals relatives lengths sent) (listed stations arrivals relatives lengths sent) budget bytes ≡ Granted
+    → Allowed S owners stations arrivals relatives lengths sent budget bytes
+allowed S owners stations arrivals relatives lengths sent budget bytes e =
+    let ms : List Message = listed stations arrivals relatives lengths sent in
+    let time = then-granted (treeVerdict (S .time .branches) (S .time .leaves)) _ e in
+    let index = then-granted (treeVerdict (S .index .branches) (S .index .leaves)) _ (time .1) in
+    let shop = then-granted (shopVerdict S owners) _ (index .1) in
+    let stationed = ask-granted (within 1 32 (S .stations)) Stations _ (shop .0) in
+    let numbered = ask-granted (classNumbers S) ClassNumbers _ (stationed .1) in
+    let tabled = ask-granted (tableFits S owners) IndexTable Granted (numbered .1) in
+    let sending = ask-granted (sameLengths stations arrivals relatives lengths sent && messagesFit (S .stations) ms) Messages _ (shop .1) in
+    let budgeted = ask-granted (within 1 1000000 budget) Budget _ (sending .1) in
+    let logged = ask-granted (leb (16 * budget) bytes) LogRoom Granted (budgeted .1) in
+    let tree = granted-tree (S .index .branches) (S .index .leaves) (index .0) in
+    let z = within-true 1 32 (S .stations) (stationed .0) in
+    let c = both (within 1 1000000 (S .width)) _ (numbered .0) in
+    let width = within-true 1 1000000 (S .width) (c .0) in
+    let others = both (leb (S .offset) 1000000) (leb (S .compression) 8) (c .1) in
+    let table = both (eqb (length owners) (S .index .leaves)) _ (tabled .0) in
+    let all : length owners ≡ S .index .leaves = eqb-true _ _ (table .0) in
+    let fewer : length owners ≤ 1024 = omega (arith, tree .tree .few) in
+    let lists = both (sameLengths stations arrivals relatives lengths sent) (messagesFit (S .stations) ms) (sending .0) in
+    let fitting = both (leb (length ms) 512) (allFit (S .stations) ms) (lists .1) in
+    let most : length ms ≤ 512 = leb-true _ _ (fitting .0) in
+    let b = within-true 1 1000000 budget (budgeted .0) in
+    record {
+      sound = record {
+        time = granted-tree (S .time .branches) (S .time .leaves) (time .0);
+        static = tree;
+        stations = z .1;
+        wide = width .0;
+        width = width .1;
+        offset = leb-true _ _ (others .0);
+        factor = leb-true _ _ (others .1);
+      };
+      owners-few = fewer;
+      owners-small = small-owners (S .stations) owners (z .1) (both (areOwners (S .stations) owners) _ (table .1) .0);
+      table-long = length-table owners fewer;
+      long = same-length stations arrivals relatives lengths sent (lists .0) (omega (arith, most, length-listed stations arrivals relatives lengths sent));
+      timed = timed-list (S .stations) ms (fitting .1);
+      some-budget = b .0;
+      few = b .1;
+      room = leb-true _ _ (logged .0);
+    }

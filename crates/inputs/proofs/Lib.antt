@@ -1,0 +1,4 @@
+pub mod TestLaws
+pub mod TableLaws
+pub mod VerdictLaws
+pub mod GrantLaws
