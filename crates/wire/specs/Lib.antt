@@ -1,0 +1,5 @@
+pub mod Run
+pub mod Answer
+pub mod Promise
+pub mod Work
+pub mod Examples
