@@ -3,15 +3,19 @@
 --   All list            each statement of the list holds
 --   countsUpTo m t k    the answers to the worst counts of 0 to k active leaves
 --   places rows         first leaf and width of each row
---   examples            the starred examples, in the order of docs/RULES.md, section 7
+--   examples            the starred examples, in the order of docs/RULES.md, section 7; the class is that of section 9
 --   starred             all of them hold
 use mathlib.Core.Path.{_≡_, refl}
-use mathlib.Core.List.{List, [], _∷_, _++_, map}
+use mathlib.Core.List.{List, [], _∷_, _++_}
 use Prim.Native.Nat.{ℕ, zero, suc}
+use lib.IntN.{pos, negsuc}
 use Rattle.rows.specs.declared.Row.{Row}
-use Rattle.trees.specs.Search.{searchRows, cost}
+use Rattle.refusals.specs.Numbers.{verdictNumber}
+use Rattle.trees.specs.Search.{searchRows, cost, sent}
 use Rattle.counts.specs.Answer.{countOf}
 use Rattle.searches.specs.Answer.{searchFigures}
+use Rattle.placements.specs.Answer.{placementVerdict}
+use Rattle.classes.specs.Answer.{classFigures}
 
 -- statements, all of them
 abbrev pub All : List (Type 0) → Type 0
@@ -40,22 +44,33 @@ worstCounts =
 abbrev pub searches : List (Type 0)
 searches =
     (searchFigures 2 4 (0 ∷ 0 ∷ 0 ∷ 0 ∷ []) 112 ≡ (0, 1, 1, 0))
-    ∷ ((searchFigures 2 4 (0 ∷ 0 ∷ 0 ∷ 1 ∷ []) 112 ≡ (0, 1, 0, 0)) × (cost (searchRows 2 2 (0 ∷ 0 ∷ 0 ∷ 1 ∷ [])) ≡ 0))
+    ∷ ((searchFigures 2 4 (0 ∷ 0 ∷ 0 ∷ 1 ∷ []) 112 ≡ (0, 1, 0, 0))
+    × (sent (searchRows 2 2 (0 ∷ 0 ∷ 0 ∷ 1 ∷ [])) ≡ 3 ∷ [])
+    × (cost (searchRows 2 2 (0 ∷ 0 ∷ 0 ∷ 1 ∷ [])) ≡ 0))
     ∷ ((searchFigures 2 4 (1 ∷ 1 ∷ 0 ∷ 0 ∷ []) 112 ≡ (0, 5, 1, 2))
     × (cost (searchRows 2 2 (1 ∷ 1 ∷ 0 ∷ 0 ∷ [])) ≡ 3)
     × (places (searchRows 2 2 (1 ∷ 1 ∷ 0 ∷ 0 ∷ [])) ≡ (0, 4) ∷ (0, 2) ∷ (0, 1) ∷ (1, 1) ∷ (2, 2) ∷ []))
     ∷ ((searchFigures 2 4 (1 ∷ 0 ∷ 1 ∷ 0 ∷ []) 112 ≡ (0, 3, 0, 1)) × (cost (searchRows 2 2 (1 ∷ 0 ∷ 1 ∷ 0 ∷ [])) ≡ 1))
     ∷ []
 
--- t 1 and t 6 with m 2 are refused 2, by every call on a tree
+-- with m 2 neither 1 nor 6 leaves make a tree: a count, a search and a placement are refused 2
 abbrev pub limits : List (Type 0)
 limits =
-    ((countOf 2 1 0 ≡ (2, 0)) × (countOf 2 6 0 ≡ (2, 0)) × (searchFigures 2 1 (0 ∷ []) 112 ≡ (2, 0, 0, 0)) × (searchFigures 2 6 (0 ∷ []) 112 ≡ (2, 0, 0, 0)))
+    ((countOf 2 1 0 ≡ (2, 0))
+    × (countOf 2 6 0 ≡ (2, 0))
+    × (searchFigures 2 1 (0 ∷ []) 112 ≡ (2, 0, 0, 0))
+    × (searchFigures 2 6 (0 ∷ []) 112 ≡ (2, 0, 0, 0))
+    × (verdictNumber (placementVerdict 2 1 0 1) ≡ 2)
+    × (verdictNumber (placementVerdict 2 6 0 6) ≡ 2))
     ∷ []
 
+-- offset 0, reference 10, width 10: the class of deadline 9 is −1 (`negsuc 0`), that of deadline 10 is 0
+abbrev pub classes : List (Type 0)
+classes = ((classFigures 9 0 10 10 ≡ (0, negsuc 0)) × (classFigures 10 0 10 10 ≡ (0, pos 0))) ∷ []
+
 abbrev pub examples : List (Type 0)
-examples = worstCounts ++ searches ++ limits
+examples = worstCounts ++ searches ++ limits ++ classes
 
 -- THE STARRED EXAMPLES
 pub starred : All examples
-starred = (refl, (refl, (refl, (refl, ((refl, refl), ((refl, refl, refl), ((refl, refl), ((refl, refl, refl, refl), tt))))))))
+starred = (refl, (refl, (refl, (refl, ((refl, refl, refl), ((refl, refl, refl), ((refl, refl), ((refl, refl, refl, refl, refl, refl), ((refl, refl), tt)))))))))

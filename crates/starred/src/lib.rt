@@ -1,3 +1,3 @@
-// Starred: the worked examples of docs/RULES.md, section 7, as one list and one theorem.
+// Starred: the worked examples of docs/RULES.md, sections 7 and 9, as one list and one theorem.
 // They are computed from the definitions that the promises cite; there is no code to run.
-// Uses the specs of trees, searches and counts.
+// Uses the specs of refusals, rows, trees, searches, counts, placements and classes.

@@ -1,12 +1,18 @@
-// Worked: the example that a reader sees first (README.md). It searches the tree with two branches and four leaves,
-// leaves 0 and 1 active, and prints the log; then some worst counts; then two trees that are refused.
+// Worked: the example that a reader sees first (README.md). It runs a shop of two tills with three messages and prints
+// the log and the closing line; then it searches the tree with two branches and four leaves, leaves 0 and 1 active,
+// and prints that log; then some worst counts; then two trees that are refused.
 // What it prints is held to docs/RULES.md by the file stdout, which was written from the rules and not from a run.
-// Uses refusals, searches and counts.
+// Uses refusals, searches, counts, phases and wire.
 use counts::Count;
+use phases::Shape;
+use phases::Shop;
 use refusals::Refusal;
 use searches::Found;
+use wire::Figures;
+use wire::Outcome;
 ghost use Prim.Native.Nat.{_+_, _*_, _≤_};
 ghost use lib.ListN.{length};
+ghost use Rattle.wire.specs.Answer.{readingOf};
 
 const STDOUT: i32 = 1;
 
@@ -97,6 +103,85 @@ fn put_rows(log: &[u8], rows: usize)
     }
 }
 
+// The table of a log with so many rows.
+fn put_log(log: &[u8], rows: u32)
+    requires { ⌜ 16 * rows ≤ length (now log) ⌝ }
+{
+    put(b"slot phase first width state message length\n");
+    put_rows(log, rows as usize);
+}
+
+// The closing line of a run, behind the word that says how it ended.
+fn put_closing(figures: Figures) {
+    put_column(wide(figures.events));
+    put_column(wide(figures.slot));
+    put_column(wide(figures.sent));
+    put_number(wide(figures.late));
+    put(b"\n");
+}
+
+// What a run came to: its log and its closing line, or its refusal.
+fn put_outcome(log: &[u8], outcome: Outcome)
+    requires { ⌜ 16 * readingOf outcome .events ≤ length (now log) ⌝ }
+{
+    match outcome {
+        Outcome::Done(figures) => {
+            put_log(log, figures.events);
+            put(b"done ");
+            put_closing(figures);
+        }
+        Outcome::Spent(figures) => {
+            put_log(log, figures.events);
+            put(b"budget ");
+            put_closing(figures);
+        }
+        Outcome::Refused(refusal) => put_refusal(refusal),
+    }
+}
+
+// Two stations, classes of 10 slots, four time leaves and two static indices.
+fn two_tills() -> Shop {
+    let time = Shape {
+        branches: 2,
+        leaves: 4,
+    };
+    let index = Shape {
+        branches: 2,
+        leaves: 2,
+    };
+    Shop {
+        stations: 2,
+        width: 10,
+        offset: 0,
+        compression: 1,
+        time: time,
+        index: index,
+    }
+}
+
+// Three messages: docs/RULES.md, section 10. The log has room for the budget's 16 rows.
+fn show_run() {
+    let owners = [0u32, 1];
+    let stations = [0u32, 1, 0];
+    let arrivals = [0u32, 0, 0];
+    let relatives = [25u32, 28, 100];
+    let lengths = [3u32, 2, 1];
+    let mut sent = [0u32, 0, 0];
+    let mut log = [0u8; 256];
+    let outcome = wire::run(
+        two_tills(),
+        &owners,
+        &stations,
+        &arrivals,
+        &relatives,
+        &lengths,
+        &mut sent,
+        &mut log,
+        16,
+    );
+    put_outcome(&log, outcome);
+}
+
 fn put_figures(rows: u32, silences: u32, collisions: u32) {
     put(b"rows ");
     put_number(wide(rows));
@@ -118,8 +203,7 @@ fn show_search() {
             silences,
             collisions,
         } => {
-            put(b"slot phase first width state message length\n");
-            put_rows(&log, rows as usize);
+            put_log(&log, rows);
             put_figures(rows, silences, collisions);
         }
         Found::Refused(refusal) => put_refusal(refusal),
@@ -143,7 +227,9 @@ fn show_count(m: u32, t: u32, k: u32) {
 }
 
 fn main() {
-    put(b"a search: m 2, t 4, leaves 0 and 1 active\n");
+    put(b"a run: two tills, three messages\n");
+    show_run();
+    put(b"\na search: m 2, t 4, leaves 0 and 1 active\n");
     show_search();
     put(b"\nworst counts\n");
     show_count(4, 64, 2);

@@ -16,9 +16,9 @@ five : (log log' : List ℕ) (found : Found) (r s k : ℕ) → length log ≡ 11
 five log log' found r s k room p e =
     ap (λ (f : ℕ × ℕ × ℕ × ℕ). f .1) (ap figures (sym e) ∙ p .figured ∙ ap (searchFigures 2 4 (1 ∷ 1 ∷ 0 ∷ 0 ∷ [])) room)
 
-put-rows-requires : tie.Need-put-rows-requires
-put-rows-requires c κs =
-    let told = c .before .before .before .before in
+put-log-requires : tie.Need-put-log-requires
+put-log-requires c κs =
+    let told = c .before .before in
     let s = told .before .before .before .search in
     omega (arith, s .kept .1 .1 .1 .0, five _ _ _ _ _ _ refl (s .ensures) (told .found .given .1))
 
@@ -31,10 +31,7 @@ show-search-spec =
     (λ c κs. search needs)
     (λ c. search needs)
     (λ c. search needs)
-    (λ c κs. search needs)
-    (λ c. search needs)
-    (λ c. search needs)
-    put-rows-requires
+    put-log-requires
     (λ c κs. search needs)
     (λ c. search needs)
     (λ c κs. search needs)
