@@ -3,22 +3,21 @@
 --   classVerdict deadline α ref c   refusals 7, 9 and 12, in this order
 --   figures answer                  refusal number (0 for none) and the class (0 where refused)
 --   classFigures deadline α ref c   the figures that the call must answer
-use mathlib.Core.Bool.{_&&_}
 use Prim.Native.Nat.{ℕ}
 use lib.Dec.{leb}
 use lib.IntN.{ℤ, pos}
 use Rattle.refusals.specs.declared.Verdict.{Verdict}
 use Rattle.refusals.specs.declared.Verdict.the-variants.{Granted, Refused as Denied}
 use Rattle.refusals.specs.declared.Refusal.the-variants.{ClassNumbers, Messages, ReferenceTime}
-use Rattle.refusals.specs.Numbers.{numberOf, within, ask}
+use Rattle.refusals.specs.Numbers.{numberOf, ask}
 use Rattle.classes.specs.declared.Class.{Class}
 use Rattle.classes.specs.declared.Class.the-variants.{Number, Refused}
-use Rattle.classes.specs.Class.{classOf}
+use Rattle.classes.specs.Class.{classOf, classFits}
 
 -- the tests in their order
 abbrev pub classVerdict : ℕ → ℕ → ℕ → ℕ → Verdict
 classVerdict deadline offset reference width =
-    ask (within 1 1000000 width && leb offset 1000000) ClassNumbers
+    ask (classFits width offset) ClassNumbers
     (ask (leb deadline 2000000000) Messages
     (ask (leb reference 5000000000000) ReferenceTime
     Granted))

@@ -7,7 +7,7 @@ use refusals::Verdict;
 ghost use mathlib.Core.Path.{_≡_};
 ghost use Prim.Native.Nat.{_<_, _≤_};
 ghost use lib.IntN.{subℕ};
-ghost use Rattle.classes.specs.Class.{floorOf, classOf, classBelow};
+ghost use Rattle.classes.specs.Class.{floorOf, classOf, classBelow, classFits};
 ghost use Rattle.classes.specs.Answer.{classVerdict};
 ghost use Rattle.classes.specs.Promise.{ClassPromise};
 
@@ -57,17 +57,24 @@ pub fn is_below(deadline: u32, offset: u32, reference: u64, width: u32, b: u32) 
     class_of(deadline, offset, reference, width) < leaf
 }
 
+// Whether class width and offset are in range.
+pub fn class_fits(width: u32, offset: u32) -> bool
+    ensures { λ r. ⌜ r ≡ classFits width offset ⌝ }
+{
+    if width < 1 {
+        return false;
+    }
+    if 1000000 < width {
+        return false;
+    }
+    offset <= 1000000
+}
+
 // Refusals 7, 9 and 12, in this order.
 fn class_verdict(deadline: u32, offset: u32, reference: u64, width: u32) -> Verdict
     ensures { λ r. ⌜ r ≡ classVerdict deadline offset reference width ⌝ }
 {
-    if width < 1 {
-        return Verdict::Refused(Refusal::ClassNumbers);
-    }
-    if 1000000 < width {
-        return Verdict::Refused(Refusal::ClassNumbers);
-    }
-    if 1000000 < offset {
+    if !class_fits(width, offset) {
         return Verdict::Refused(Refusal::ClassNumbers);
     }
     if 2000000000 < deadline {

@@ -10,16 +10,18 @@ use borrow.Author.Tests.{ltb-true, leb-true, eqb-true}
 use Rattle.refusals.specs.declared.Refusal.the-variants.{Stations, ClassNumbers, IndexTable, Messages, Budget, LogRoom}
 use Rattle.refusals.specs.declared.Verdict.the-variants.{Granted}
 use Rattle.refusals.specs.Numbers.{within}
-use Rattle.refusals.proofs.Verdicts.{ask-granted, then-granted, within-true}
+use Rattle.refusals.proofs.Verdicts.{ask-granted, then-granted, both, within-true}
 use Rattle.trees.specs.Shape.{treeVerdict}
 use Rattle.trees.proofs.ShapeLaws.{grown}
 use Rattle.messages.specs.declared.Message.{Message}
 use Rattle.messages.specs.Lists.{listed, SameLength, Timed, TimedList}
 use Rattle.messages.proofs.ListLaws.{length-listed}
+use Rattle.classes.specs.Class.{classFits}
+use Rattle.classes.proofs.VerdictLaws.{fitting}
 use Rattle.phases.specs.declared.Shop.{Shop}
 use Rattle.phases.specs.Work.{Grown, Sound}
 use Rattle.inputs.specs.Inputs.{classNumbers, isOwner, areOwners, tableFits, messageFits, allFit, messagesFit, sameLengths, shopVerdict, runVerdict, tableOf, SmallOwners}
-use Rattle.inputs.proofs.TestLaws.{both, same-length}
+use Rattle.inputs.proofs.TestLaws.{same-length}
 use Rattle.inputs.proofs.TableLaws.{length-table}
 
 -- ---- a tree, an owner, a message
@@ -84,9 +86,8 @@ allowed S owners stations arrivals relatives lengths sent budget bytes e =
     let logged = ask-granted (leb (16 * budget) bytes) LogRoom Granted (budgeted .1) in
     let tree = granted-tree (S .index .branches) (S .index .leaves) (index .0) in
     let z = within-true 1 32 (S .stations) (stationed .0) in
-    let c = both (within 1 1000000 (S .width)) _ (numbered .0) in
-    let width = within-true 1 1000000 (S .width) (c .0) in
-    let others = both (leb (S .offset) 1000000) (leb (S .compression) 8) (c .1) in
+    let numbers = both (classFits (S .width) (S .offset)) (leb (S .compression) 8) (numbered .0) in
+    let class = fitting (S .width) (S .offset) (numbers .0) in
     let table = both (eqb (length owners) (S .index .leaves)) _ (tabled .0) in
     let all : length owners ≡ S .index .leaves = eqb-true _ _ (table .0) in
     let fewer : length owners ≤ 1024 = omega (arith, tree .tree .few) in
@@ -99,10 +100,10 @@ allowed S owners stations arrivals relatives lengths sent budget bytes e =
         time = granted-tree (S .time .branches) (S .time .leaves) (time .0);
         static = tree;
         stations = z .1;
-        wide = width .0;
-        width = width .1;
-        offset = leb-true _ _ (others .0);
-        factor = leb-true _ _ (others .1);
+        wide = class .0;
+        width = class .1;
+        offset = class .2;
+        factor = leb-true _ _ (numbers .1);
       };
       owners-few = fewer;
       owners-small = small-owners (S .stations) owners (z .1) (both (areOwners (S .stations) owners) _ (table .1) .0);

@@ -10,46 +10,27 @@ use lib.ListN.{length, getD, drop}
 use lib.Seq.{drop-cons, drop-length}
 use borrow.Author.Tests.{lt-ltb, le-ltb, le-leb, lt-leb, eq-eqb, ne-eqb, eqb-true, eqb-false, not-true, not-false}
 use Rattle.refusals.specs.Numbers.{within}
-use Rattle.refusals.proofs.Verdicts.{in-range, below-range, above-range}
+use Rattle.refusals.proofs.Verdicts.{in-range, below-range, above-range, both, fails, on}
 use Rattle.messages.specs.declared.Message.{Message}
 use Rattle.messages.specs.Message.{blank}
 use Rattle.messages.specs.Lists.{listed, SameLength}
 use Rattle.messages.proofs.ListLaws.{length-listed}
+use Rattle.classes.specs.Class.{classFits}
 use Rattle.phases.specs.declared.Shop.{Shop}
 use Rattle.inputs.specs.Inputs.{classNumbers, isOwner, areOwners, holds, allOwn, tableFits, messageFits, allFit, messagesFit, sameLengths}
-
--- ---- a conjunction of two tests
-
-pub fails : (a b : Bool) → a ≡ false → false ≡ (a && b)
-fails a b e = rw e refl
-
-pub on : (a b t : Bool) → a ≡ true → t ≡ b → t ≡ (a && b)
-on a b t e f = rw e f
 
 fails-last : (a b : Bool) → b ≡ false → (a && b) ≡ false
 fails-last true b e = e
 fails-last false b e = refl
 
-pub both : (a b : Bool) → (a && b) ≡ true → (a ≡ true) × (b ≡ true)
-both true b e = (refl, e)
-both false b e = let z : _≡_ {A = ℕ} 0 1 = cc in absurd (omega arith)
-
 -- ---- class numbers
 
 module _ (S : Shop) where
-  pub width-none : S .width < 1 → false ≡ classNumbers S
-  width-none h = fails _ _ (below-range 1 1000000 (S .width) h)
+  pub class-unfit : classFits (S .width) (S .offset) ≡ false → false ≡ classNumbers S
+  class-unfit e = fails _ _ e
 
-  module _ (some : 1 ≤ S .width) where
-    pub width-large : 1000000 < S .width → false ≡ classNumbers S
-    width-large h = fails _ _ (above-range 1 1000000 (S .width) some h)
-
-    module _ (narrow : S .width ≤ 1000000) where
-      pub offset-large : 1000000 < S .offset → false ≡ classNumbers S
-      offset-large h = on _ _ _ (in-range 1 1000000 (S .width) some narrow) (fails _ _ (lt-leb (S .offset) 1000000 h))
-
-      pub by-factor : S .offset ≤ 1000000 → leb (S .compression) 8 ≡ classNumbers S
-      by-factor h = on _ _ _ (in-range 1 1000000 (S .width) some narrow) (on _ _ _ (le-leb (S .offset) 1000000 h) refl)
+  pub by-factor : classFits (S .width) (S .offset) ≡ true → leb (S .compression) 8 ≡ classNumbers S
+  by-factor e = on _ _ _ e refl
 
 -- ---- owners
 

@@ -8,21 +8,15 @@ use Rattle.refusals.specs.declared.Refusal.{Refusal}
 use Rattle.refusals.specs.declared.Refusal.the-variants.{Stations, ClassNumbers, IndexTable, Messages, Budget, LogRoom}
 use Rattle.refusals.specs.declared.Verdict.{Verdict}
 use Rattle.refusals.specs.declared.Verdict.the-variants.{Granted, Refused}
-use Rattle.refusals.specs.Numbers.{ask, andThen}
-use Rattle.refusals.proofs.Verdicts.{in-range, below-range, above-range}
+use Rattle.refusals.specs.Numbers.{andThen}
+use Rattle.refusals.proofs.Verdicts.{in-range, below-range, above-range, turned, passed}
 use Rattle.trees.specs.Shape.{treeVerdict}
 use Rattle.messages.specs.declared.Message.{Message}
 use Rattle.messages.specs.Lists.{listed}
 use Rattle.phases.specs.declared.Shop.{Shop}
 use Rattle.inputs.specs.Inputs.{classNumbers, tableFits, messagesFit, sameLengths, shopVerdict, budgetVerdict, runVerdict}
 
--- ---- one test, and verdicts one after the other
-
-turned : (b : Bool) (r : Refusal) (v : Verdict) → b ≡ false → Refused r ≡ ask b r v
-turned b r v e = rw e refl
-
-passed : (b : Bool) (r : Refusal) (v w : Verdict) → b ≡ true → w ≡ v → w ≡ ask b r v
-passed b r v w e f = rw e f
+-- ---- verdicts one after the other
 
 stopped : (r : Refusal) (v w : Verdict) → Refused r ≡ v → Refused r ≡ andThen v w
 stopped r v w e = ap (λ (x : Verdict). andThen x w) e

@@ -25,12 +25,13 @@ use Rattle.refusals.specs.declared.Refusal.the-variants.{Stations, ClassNumbers
 use Rattle.refusals.specs.Numbers.{within, ask, andThen}
 use Rattle.rows.specs.Log.{over}
 use Rattle.trees.specs.Shape.{treeVerdict}
+use Rattle.classes.specs.Class.{classFits}
 use Rattle.messages.specs.declared.Message.{Message}
 use Rattle.phases.specs.declared.Shop.{Shop}
 
 -- c, α and g
 abbrev pub classNumbers : Shop → Bool
-classNumbers S = within 1 1000000 (S .width) && (leb (S .offset) 1000000 && leb (S .compression) 8)
+classNumbers S = classFits (S .width) (S .offset) && leb (S .compression) 8
 
 -- a place with no owner
 abbrev pub free : ℕ

@@ -1,6 +1,6 @@
 // Inputs: what a run asks of its numbers and lists, checked in the order of the refusals, and the index table
 // that it works with (docs/RULES.md, sections 2 and 10).
-// Uses refusals, rows, trees, messages and phases.
+// Uses refusals, rows, trees, classes, messages and phases.
 use messages::Message;
 use phases::Shop;
 use refusals::Refusal;
@@ -35,13 +35,7 @@ pub fn owner_table(owners: &[u32]) -> [u8; 1024]
 fn class_numbers(shop: Shop) -> bool
     ensures { λ r. ⌜ r ≡ classNumbers shop ⌝ }
 {
-    if shop.width < 1 {
-        return false;
-    }
-    if 1000000 < shop.width {
-        return false;
-    }
-    if 1000000 < shop.offset {
+    if !classes::class_fits(shop.width, shop.offset) {
         return false;
     }
     shop.compression <= 8

@@ -27,7 +27,7 @@ pub then-granted : (v w : Verdict) → andThen v w ≡ Granted → (v ≡ Grante
 then-granted Granted w e = (refl, e)
 then-granted (Refused r) w e = never r e
 
-both : (a b : Bool) → (a && b) ≡ true → (a ≡ true) × (b ≡ true)
+pub both : (a b : Bool) → (a && b) ≡ true → (a ≡ true) × (b ≡ true)
 both true b e = (refl, e)
 both false b e = let z : _≡_ {A = ℕ} 0 1 = cc in absurd (omega arith)
 
@@ -42,6 +42,20 @@ below-range lo hi x h = simp (lt-leb lo x h)
 
 pub above-range : (lo hi x : ℕ) → lo ≤ x → hi < x → within lo hi x ≡ false
 above-range lo hi x h g = simp (le-leb lo x h, lt-leb x hi g)
+
+-- ---- tests one after the other, as a function comes to them
+
+pub turned : (b : Bool) (r : Refusal) (v : Verdict) → b ≡ false → Refused r ≡ ask b r v
+turned b r v e = rw e refl
+
+pub passed : (b : Bool) (r : Refusal) (v w : Verdict) → b ≡ true → w ≡ v → w ≡ ask b r v
+passed b r v w e f = rw e f
+
+pub fails : (a b : Bool) → a ≡ false → false ≡ (a && b)
+fails a b e = rw e refl
+
+pub on : (a b t : Bool) → a ≡ true → t ≡ b → t ≡ (a && b)
+on a b t e f = rw e f
 
 -- ---- numbers
 

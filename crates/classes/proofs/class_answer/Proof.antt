@@ -7,18 +7,18 @@ use Rattle.classes.proofs.VerdictLaws.{may-ask, turned-back, answered}
 use Rattle.classes.proofs.class_answer.Statement.{statement}
 use Rattle.classes.proofs.class_answer.Tie as tie
 
-class-of-requires : tie.Need-class-of-requires
-class-of-requires c κs =
-    let asked = c .before .before in
-    let s = asked .before .args in
-    may-ask (s .deadline) (s .offset) (s .reference) (s .width) (sym (c .enum-told .given .1) ∙ asked .class-verdict .ensures)
-
 returns : tie.Need-returns
 returns c =
     let told = c .before in
     let asked = told .before .before in
     let s = asked .before .args in
     turned-back (s .deadline) (s .offset) (s .reference) (s .width) (told .verdict .given .0 .0) (sym (told .verdict .given .1) ∙ asked .class-verdict .ensures)
+
+class-of-requires : tie.Need-class-of-requires
+class-of-requires c κs =
+    let asked = c .before .before in
+    let s = asked .before .args in
+    may-ask (s .deadline) (s .offset) (s .reference) (s .width) (sym (c .enum-told .given .1) ∙ asked .class-verdict .ensures)
 
 returns-2 : tie.Need-returns-2
 returns-2 c =

@@ -33,13 +33,16 @@ down c =
     ap (λ (v : ℤ). v -ℤ pos 1) (quot-back (s .args .distance) (s .args .width) (s .fits .distance) (s .pre) (small s))
     ∙ floor-down (s .args .distance) (s .args .width) (s .pre) (flag s _ (c .if1 .taken))
 
-sub-result : tie.Need-sub-result
-sub-result c =
+-- one less than the quotient is a number the machine can hold
+fits : (c : tie.Then1)
+    → SFits w64
+    (toZ w64 (ofZ w64 (quotZ (toZ w64 (ofZ w64 (c .before .args .distance))) (toZ w64 (c .before .args .width)))) -ℤ pos 1)
+fits c =
     let s = c .before in
     subst (SFits w64) (sym (down c)) (floor-fits (s .args .distance) (s .args .width) (s .fits .distance) (s .pre) (small s))
 
 returns : tie.Need-returns
-returns c = toZ-ofZ w64 _ (sub-result c) ∙ down c
+returns c = toZ-ofZ w64 _ (fits c) ∙ down c
 
 returns-2 : tie.Need-returns-2
 returns-2 c =
@@ -54,6 +57,6 @@ floor-div-spec =
     (λ c. search needs)
     (λ c. (c .pre, quot-fits (c .args .distance) (c .args .width) (c .fits .distance) (c .pre) (small c)))
     (λ c. (c .pre, quot-fits (c .args .distance) (c .args .width) (c .fits .distance) (c .pre) (small c)))
-    sub-result
+    fits
     returns
     returns-2)
