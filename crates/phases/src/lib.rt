@@ -115,6 +115,7 @@ fn static_on(shop: Shop, slot: u32, reference: u64, sent: bool, b: u32, leaf: u3
     time_on(shop, slot, slot as u64, sent, leaf + 1)
 }
 
+// The state after an event of the free phase.
 fn after_free(shop: Shop, slot: u32, reference: u64, sent: bool, channel: Channel) -> State
     requires { ⌜ Sound shop ⌝ }
     ensures { λ r. ⌜ r ≡ afterFree shop slot reference sent channel ⌝ }
@@ -141,6 +142,7 @@ fn after_free(shop: Shop, slot: u32, reference: u64, sent: bool, channel: Channe
     }
 }
 
+// The state after an event in the time subtree of that first leaf and width.
 fn after_time(
     shop: Shop,
     slot: u32,
@@ -187,6 +189,7 @@ fn below(shop: Shop, first: u32, width: u32) -> Standing
     }
 }
 
+// The state after an event in the static subtree, for the time leaf.
 fn after_static(
     shop: Shop,
     slot: u32,

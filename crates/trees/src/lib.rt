@@ -49,7 +49,7 @@ pub fn tree_verdict(m: u32, t: u32) -> Verdict
     }
 }
 
-// The width of the subtree that starts at b, where another ended: the largest power of m below t that divides b.
+// The subtree that follows one ending at b is the widest that can start there, short of the whole tree.
 pub fn next_width(m: u32, t: u32, b: u32) -> u32
     requires { ⌜ Tree m t × (2 ≤ t) ⌝ }
     ensures { λ r. ⌜ r ≡ nextWidth m (heightOf m t) b ⌝ }

@@ -11,7 +11,7 @@ use mathlib.Core.Path.{_≡_, refl, sym}
 use mathlib.Core.Bool.{Bool, true, false}
 use mathlib.Core.List.{List, [], _∷_, map}
 use Prim.Native.Nat.{ℕ, zero, suc}
-use lib.ListN.{length, replicate, drop}
+use lib.ListN.{replicate, drop}
 use Rattle.refusals.specs.declared.Verdict.the-variants.{Granted}
 use Rattle.rows.proofs.LogLaws.{log-none}
 use Rattle.rows.specs.declared.Row.{Row}
@@ -25,8 +25,7 @@ use Rattle.messages.specs.Lists.{listed}
 use Rattle.phases.specs.declared.Shop.{Shop}
 use Rattle.contention.specs.Contenders.{owns, entry, contendersBelow}
 use Rattle.inputs.specs.Inputs.{sameLengths, runVerdict}
-use Rattle.wire.specs.Run.{World, run, start}
-use Rattle.wire.specs.Answer.{Reading, ranOf, closing, readingBy, marks, logBy}
+use Rattle.wire.specs.Answer.{ranOf, closing, readingBy, marks, logBy}
 
 abbrev pub shop : Shop
 shop = record { stations = 2; width = 10; offset = 0; compression = 1; time = record { branches = 2; leaves = 4 }; index = record { branches = 2; leaves = 2 } }

@@ -1,6 +1,6 @@
 // Wire: the run of a shop, slot by slot, on plain numbers and lent slices (docs/RULES.md, section 10).
 // `run` is the public call: it takes whatever it is given and refuses what is bad.
-// Uses all layers below but the searches.
+// Uses refusals, rows, trees, messages, phases, contention, inputs and events.
 use messages::Message;
 use phases::Shop;
 use phases::Standing;

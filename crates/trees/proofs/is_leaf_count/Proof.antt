@@ -24,7 +24,7 @@ is-leaf-count-spec =
     (tie.spec
     Inv-loop
     μ-loop
-    (λ c. too-many (c .before .args .m) (c .before .args .t) (c .if1 .taken))
+    (λ c. too-many (c .before .args .m) (c .before .args .t) (omega arith))
     (λ c. reached-first (c .before .args .m) (c .before .args .t))
     mul-power
     (λ c. let s = c .before .before .before in reached-grows (s .args .m) (s .args .t) (c .before .loop .power) (s .pre .0) (c .loop-test .taken) (c .before .loop .inv))

@@ -5,6 +5,12 @@ use Rattle.wire.proofs.PromiseLaws.{turned-back, table-ready, loop-read
 use Rattle.wire.proofs.run.Statement.{statement}
 use Rattle.wire.proofs.run.Tie as tie
 
+returns : tie.Need-returns
+returns c =
+    let told = c .before in
+    let s = told .before .before .before .before .before .before .before .before .before .before .before .args in
+    turned-back (s .shop) (s .owners .now) (s .stations .now) (s .arrivals .now) (s .relatives .now) (s .lengths .now) (s .sent .now) (s .log .now) (s .budget) (told .verdict .given .0 .0) (sym (told .verdict .given .1) ∙ told .before .before .run-verdict .ensures)
+
 owner-table-requires : tie.Need-owner-table-requires
 owner-table-requires c κs =
     let told = c in
@@ -22,12 +28,6 @@ run-events-requires c κs =
 
 counts-of-requires : tie.Need-counts-of-requires
 counts-of-requires c κs = let ran = c .before .before .before .before .before .run-events .ensures in (ran .long, ran .timed)
-
-returns : tie.Need-returns
-returns c =
-    let told = c .before in
-    let s = told .before .before .before .before .before .before .before .before .before .before .before .args in
-    turned-back (s .shop) (s .owners .now) (s .stations .now) (s .arrivals .now) (s .relatives .now) (s .lengths .now) (s .sent .now) (s .log .now) (s .budget) (told .verdict .given .0 .0) (sym (told .verdict .given .1) ∙ told .before .before .run-verdict .ensures)
 
 returns-2 : tie.Need-returns-2
 returns-2 c =

@@ -20,6 +20,14 @@ loop-holds c =
     let s = start .args in
     turn-start (s .shop) (s .table .now) (s .stations .now) (s .arrivals .now) (s .relatives .now) (s .lengths .now) (s .sent .now) (s .log .now) (s .budget) (start .pre)
 
+returns-2 : tie.Need-returns-2 Inv-loop μ-loop
+returns-2 c =
+    let l = c .before .loop in
+    let start = c .before .before .before .before .before .before .before .before .before in
+    let s = start .args in
+    turn-spent (s .shop) (s .table .now) (s .stations .now) (s .arrivals .now) (s .relatives .now) (s .lengths .now) (s .sent .now) (s .log .now) (s .budget) (start .pre)
+    (l .sent) (l .log) (l .state) (l .events) (l .inv) (c .loop-test .left)
+
 returns : tie.Need-returns Inv-loop μ-loop
 returns c =
     let l = c .before .before .before .before .loop in
@@ -34,7 +42,7 @@ contenders-of-requires c κs =
     let start = c .before .before .before .before .before .before .before .before .before .before .before .before .before in
     let s = start .args in (
       turn-contends (s .shop) (s .table .now) (s .stations .now) (s .arrivals .now) (s .relatives .now) (s .lengths .now) (s .sent .now) (s .log .now) (s .budget) (start .pre)
-          (l .sent) (l .log) (l .state) (l .events) (l .inv) (c .before .before .before .before .loop-test .taken),
+          (l .sent) (l .log) (l .state) (l .events) (l .inv) (omega (arith, c .before .before .before .before .loop-test .taken)),
       l .inv .going .long,
       l .inv .going .timed,
     )
@@ -46,7 +54,7 @@ one-event-requires c κs =
     let s = start .args in
     let t = c .before .contenders-of in
     turn-steps (s .shop) (s .table .now) (s .stations .now) (s .arrivals .now) (s .relatives .now) (s .lengths .now) (s .sent .now) (s .log .now) (s .budget) (start .pre)
-    (l .sent) (l .log) (l .state) (l .events) (l .inv) (c .before .before .before .before .before .before .loop-test .taken) (t .result) (t .ensures)
+    (l .sent) (l .log) (l .state) (l .events) (l .inv) (omega (arith, c .before .before .before .before .before .before .loop-test .taken)) (t .result) (t .ensures)
 
 loop-again : tie.Need-loop-again Inv-loop μ-loop
 loop-again c =
@@ -59,7 +67,7 @@ loop-again c =
     let e = step .one-event in
     let row = c .before .before .before .put-row in
     turn-next (s .shop) (s .table .now) (s .stations .now) (s .arrivals .now) (s .relatives .now) (s .lengths .now) (s .sent .now) (s .log .now) (s .budget) (start .pre)
-    (l .sent) (l .log) (l .state) (l .events) (l .inv) (step .before .before .before .before .before .before .before .loop-test .taken) (t .result) (t .ensures)
+    (l .sent) (l .log) (l .state) (l .events) (l .inv) (omega (arith, step .before .before .before .before .before .before .before .loop-test .taken)) (t .result) (t .ensures)
     (e .result) (e .last .1 .1 .0) (row .last .0) (sym (test .before .all-sent .ensures) ∙ test .if1 .left) (e .ensures) (e .kept .1 .1 .0) (row .kept .0) (row .ensures)
 
 cast-put-row : tie.Need-cast-put-row Inv-loop μ-loop
@@ -79,14 +87,6 @@ put-row-requires c κs =
     let test = c .before .before .before .before .before .before .before .before .before .before .before in
     let start = test .before .before .before .before .before .before .before .before .before in
     omega (arith, test .loop-test .taken, test .before .loop .inv .kept, start .pre .room)
-
-returns-2 : tie.Need-returns-2 Inv-loop μ-loop
-returns-2 c =
-    let l = c .before .loop in
-    let start = c .before .before .before .before .before .before .before .before .before in
-    let s = start .args in
-    turn-spent (s .shop) (s .table .now) (s .stations .now) (s .arrivals .now) (s .relatives .now) (s .lengths .now) (s .sent .now) (s .log .now) (s .budget) (start .pre)
-    (l .sent) (l .log) (l .state) (l .events) (l .inv) (c .loop-test .left)
 
 pub run-events-spec : {M : Type 1} → statement M
 run-events-spec =
