@@ -1,0 +1,3 @@
+pub mod KeptLaws
+pub mod LoopLaws
+pub mod Theorems

@@ -1,0 +1,4 @@
+pub mod Withdrawal
+pub mod Answer
+pub mod Work
+pub mod Examples
