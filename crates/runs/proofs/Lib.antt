@@ -1,0 +1,3 @@
+pub mod ColumnLaws
+pub mod SlotLaws
+pub mod RunLaws
