@@ -1,6 +1,7 @@
 -- What a run promises, whatever numbers and lists it is given.
 --
 --   RunPromise ..     the reading, the slots of sending and the whole log at exit are the definition's
+--   reading-tells     the reading tells the answer
 --   one-result        two results that the promise allows for one input are equal
 use mathlib.Core.Path.{_≡_, refl, sym, ap, _∙_}
 use mathlib.Core.Bool.{Bool, true, false}
@@ -41,7 +42,7 @@ same-figures f g a b c d =
     ∙ ap (λ (x : ℕ). made (g .events) (g .slot) (g .sent) x) d
 
 -- the reading tells the answer
-reading-tells : (a b : Outcome) → readingOf a ≡ readingOf b → a ≡ b
+pub reading-tells : (a b : Outcome) → readingOf a ≡ readingOf b → a ≡ b
 reading-tells (Done f) (Done g) e =
     ap Done (same-figures f g (ap (λ (r : Reading). r .events) e) (ap (λ (r : Reading). r .slot) e) (ap (λ (r : Reading). r .sent) e) (ap (λ (r : Reading). r .late) e))
 reading-tells (Done f) (Spent g) e = let z : true ≡ false = ap (λ (r : Reading). r .done) e in let y : _≡_ {A = ℕ} 0 1 = cc in absurd (omega arith)

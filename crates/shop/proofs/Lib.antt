@@ -1,0 +1,4 @@
+pub mod Items
+pub mod Shared
+pub mod TableLaws
+pub mod Theorems
