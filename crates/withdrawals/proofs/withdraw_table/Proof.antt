@@ -9,19 +9,6 @@ use Rattle.withdrawals.proofs.LoopLaws.{granted-count, turned-back, cle
 use Rattle.withdrawals.proofs.withdraw_table.Statement.{statement}
 use Rattle.withdrawals.proofs.withdraw_table.Tie as tie
 
-move-kept-requires : tie.Need-move-kept-requires
-move-kept-requires c κs =
-    let s = c .before .before .before .args in
-    let few : s .count ≤ 512 = granted-count (s .station) (s .count) (sym (c .enum-told .given .1) ∙ c .before .before .withdrawal-verdict .ensures) in
-    omega (arith, few)
-
-wipe-requires : tie.Need-wipe-requires
-wipe-requires c κs =
-    let told = c .before .before in
-    let s = told .before .before .before .args in
-    let few : s .count ≤ 512 = granted-count (s .station) (s .count) (sym (told .enum-told .given .1) ∙ told .before .before .withdrawal-verdict .ensures) in
-    (omega (arith, c .before .move-kept .ensures .sums), omega (arith, few))
-
 returns : tie.Need-returns
 returns c =
     let told = c .before in
@@ -35,6 +22,19 @@ returns-2 c =
     let moved = c .before .before .move-kept in
     cleared (s .station) (s .count) (s .table) (sym (told .enum-told .given .1) ∙ told .before .before .withdrawal-verdict .ensures)
     (moved .result .table) (moved .result .kept) (moved .result .withdrawn) (moved .ensures) (c .wipe .result) (c .wipe .ensures)
+
+move-kept-requires : tie.Need-move-kept-requires
+move-kept-requires c κs =
+    let s = c .before .before .before .args in
+    let few : s .count ≤ 512 = granted-count (s .station) (s .count) (sym (c .enum-told .given .1) ∙ c .before .before .withdrawal-verdict .ensures) in
+    omega (arith, few)
+
+wipe-requires : tie.Need-wipe-requires
+wipe-requires c κs =
+    let told = c .before .before in
+    let s = told .before .before .before .args in
+    let few : s .count ≤ 512 = granted-count (s .station) (s .count) (sym (told .enum-told .given .1) ∙ told .before .before .withdrawal-verdict .ensures) in
+    (omega (arith, c .before .move-kept .ensures .sums), omega (arith, few))
 
 pub withdraw-table-spec : {M : Type 1} → statement M
 withdraw-table-spec =
