@@ -192,7 +192,7 @@ fn main() {
     put(b"\ntill 1 is withdrawn\n");
     let left = withdraw_and_show(first, 1);
     put(b"\na run: the kept messages, and two further ones of till 0\n");
-    run_and_show(queue_again(left));
+    let second = run_and_show(queue_again(left));
     put(b"\na till 32 is withdrawn\n");
-    withdraw_and_show(left, 32);
+    withdraw_and_show(second, 32);
 }
