@@ -1,6 +1,6 @@
 // Runs: a run over a table of records, of which the first `count` are the list (docs/RULES.md, section 10).
 // Each field is copied into a list of numbers, the run is made on these, and the slots of sending are copied back.
-// Uses messages, phases and wire.
+// Uses refusals, rows, trees, messages, phases, contention, inputs, events and wire.
 use messages::Message;
 use phases::Shop;
 use wire::Outcome;

@@ -2,11 +2,15 @@
 --
 --   run-keeps           a run leaves the same records in the same places; only their slots of sending may differ
 --   withdrawal-keeps    a withdrawal leaves a list of the same length
+--   kept-in-front       the first places, as many as the answer says are kept, are the records of other stations
 use mathlib.Core.Path.{_≡_, refl, sym, ap, _∙_}
 use mathlib.Core.Bool.{true}
 use mathlib.Core.List.{List, map}
 use Prim.Native.Nat.{ℕ}
-use lib.ListN.{length}
+use native.Mathlib.Omega.{arith}
+use lib.ListN.{length, take}
+use lib.Seq.{take-append-seam}
+use Rattle.refusals.proofs.Verdicts.{number-some}
 use Rattle.refusals.specs.declared.Verdict.{Verdict}
 use Rattle.refusals.specs.declared.Verdict.the-variants.{Granted, Refused as Denied}
 use Rattle.messages.specs.declared.Message.{Message}
@@ -17,7 +21,9 @@ use Rattle.wire.specs.Answer.{ranOf}
 use Rattle.runs.specs.Slots.{messagesBy}
 use Rattle.runs.proofs.SlotLaws.{bare, same-records}
 use Rattle.withdrawals.specs.declared.Withdrawal.{Withdrawal}
-use Rattle.withdrawals.specs.Answer.{withdrawalVerdict, listBy}
+use Rattle.withdrawals.specs.declared.Withdrawal.the-variants.{Withdrawn}
+use Rattle.withdrawals.specs.Withdrawal.{keptOf}
+use Rattle.withdrawals.specs.Answer.{withdrawalVerdict, figuresBy, listBy}
 use Rattle.withdrawals.proofs.KeptLaws.{length-after}
 use Rattle.shop.specs.Promise.{WithdrawalPromise, ShopPromise}
 
@@ -37,3 +43,14 @@ withdrawal-keeps station ms answer ms' p = ap length (p .left) ∙ by (withdrawa
     by : (v : Verdict) → length (listBy v station ms) ≡ length ms
     by Granted = length-after station ms
     by (Denied r) = refl
+
+-- so a caller who lends these places lends the list
+pub kept-in-front : (station : ℕ) (ms : List Message) (kept withdrawn : ℕ) (ms' : List Message) → WithdrawalPromise station ms (Withdrawn kept withdrawn) ms' → take kept ms' ≡ keptOf station ms
+kept-in-front station ms kept withdrawn ms' p = by (withdrawalVerdict station (length ms)) (p .figured) (p .left)
+  where
+    by : (v : Verdict) → (0, kept, withdrawn) ≡ figuresBy v station ms → ms' ≡ listBy v station ms → take kept ms' ≡ keptOf station ms
+    by Granted e l =
+        ap (take kept) l
+        ∙ ap (λ (n : ℕ). take n (listBy Granted station ms)) (ap (λ (f : ℕ × ℕ × ℕ). f .1) e)
+        ∙ take-append-seam (keptOf station ms) _
+    by (Denied r) e l = absurd (omega (arith, number-some r, ap (λ (f : ℕ × ℕ × ℕ). f .0) e))

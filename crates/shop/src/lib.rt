@@ -1,6 +1,6 @@
 // Shop: the calls that a shop script makes, over its lent list of messages (docs/RULES.md, sections 10 and 11).
 // Each copies the list into a table, has the table worked on, and copies it back: no call decides anything itself.
-// Uses refusals, messages, records, withdrawals, phases, inputs, wire and runs.
+// Uses refusals, trees, messages, records, withdrawals, phases, inputs, wire and runs.
 use messages::Message;
 use phases::Shop;
 use wire::Outcome;

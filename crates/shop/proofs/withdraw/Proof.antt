@@ -134,7 +134,7 @@ module _ {M : Type 1} (𝓤 : URA M) (H : Heap 𝓤) (A : Atoms 𝓤) (W : Given
   load-of : (ν : ℕ) (δ : GName) (r : List Message) → ent 𝓤 (ensured 𝓤 H A ld.ended (ld.clauses 𝓤 H A mem run) (ν ∷ [], tt) (list δ, tt) tt r) (fact 𝓤 (r ≡ loaded))
   load-of ν δ r = exE 𝓤 _ (λ ws. snd∗ 𝓤 (sem 𝓤 H A (lasts ld.ended (ν ∷ [], tt) (list δ, tt) ws)) (fact 𝓤 (r ≡ loaded)))
 
-  -- `cut_table`: the table a at the machine value v
+  -- `withdraw_table`: the table a at the machine value v
   abbrev to-cut : List Message → Val → CutTable 𝓤 H A mem run .Ghost
   to-cut a v = ((tt, tt, tt, (a, (n, (st, tt))), (v ∷ [], (vint w64 n ∷ [], (vint w32 st ∷ [], tt)))), tt)
 
