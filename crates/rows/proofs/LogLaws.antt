@@ -1,11 +1,12 @@
 -- Bytes written over a buffer, one run behind the other, and rows as bytes.
 use mathlib.Core.Path.{_≡_, refl, sym, ap, _∙_}
 use mathlib.Core.List.{List, [], _∷_, _++_, append-assoc, append-nil}
-use Prim.Native.Nat.{ℕ, _+_, _*_, _≤_}
+use Prim.Native.Nat.{ℕ, suc, _+_, _*_, _≤_, _<_}
 use native.Mathlib.Nat.{add-zero}
+use native.Mathlib.Numerals.{add-one}
 use native.Mathlib.Omega.{arith}
-use lib.ListN.{length, take, drop, length-append, length-drop, take-append-drop}
-use lib.Seq.{length-take-le, take-at, drop-at, drop-drop}
+use lib.ListN.{length, set, take, drop, length-append, length-drop, take-append-drop}
+use lib.Seq.{length-take-le, set-split, append-snoc, take-at, drop-at, drop-drop}
 use Rattle.rows.specs.declared.Row.{Row}
 use Rattle.rows.specs.Log.{over, rowBytes, logBytes}
 
@@ -36,6 +37,13 @@ over-over d at b c h =
     ap (λ (l : List ℕ). (l ++ c) ++ drop (at + length b + length c) (over d at b)) (take-at front (drop (at + length b) d) (at + length b) n)
     ∙ ap (λ (l : List ℕ). l ++ drop (at + length b + length c) (over d at b)) (append-assoc (take at d) b c)
     ∙ ap (λ (l : List ℕ). (take at d ++ (b ++ c)) ++ l) back
+
+-- one byte
+pub set-over : (d : List ℕ) (at b : ℕ) → at < length d → set d at b ≡ over d at (b ∷ [])
+set-over d at b h =
+    set-split d at b h
+    ∙ sym (append-snoc (take at d) b (drop (suc at) d))
+    ∙ ap (λ (k : ℕ). take at d ++ (b ∷ []) ++ drop k d) (sym (add-one at))
 
 -- ---- rows
 

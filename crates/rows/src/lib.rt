@@ -83,8 +83,8 @@ fn row_bytes(row: Row) -> [u8; 16]
     ]
 }
 
-// The bytes, written over the log from place `at` on.
-fn put_bytes(log: &mut [u8], at: usize, bytes: &[u8])
+// The bytes, written over a buffer from place `at` on.
+pub fn put_bytes(log: &mut [u8], at: usize, bytes: &[u8])
     requires { ⌜ at + length (now bytes) ≤ length (now log) ⌝ }
     ensures { λ _. ⌜ now (log .exit) ≡ over (now (log .entry)) at (now (bytes .entry)) ⌝ }
 {
