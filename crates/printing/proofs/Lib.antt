@@ -1,0 +1,2 @@
+pub mod BackLaws
+pub mod PutLaws
