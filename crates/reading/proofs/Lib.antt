@@ -1,0 +1,5 @@
+pub mod Picked
+pub mod PieceLaws
+pub mod LineLaws
+pub mod MessageLaws
+pub mod HeadLaws

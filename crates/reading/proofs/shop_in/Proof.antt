@@ -1,0 +1,29 @@
+-- A line of 8 numbers, or another one.
+use borrow.Author.Needs.{needs}
+use mathlib.Core.Path.{refl}
+use Rattle.reading.proofs.LineLaws.{shop-holds, shop-misses}
+use Rattle.reading.proofs.shop_in.Statement.{statement}
+use Rattle.reading.proofs.shop_in.Tie as tie
+
+returns : tie.Need-returns
+returns c = let read = c .before .before .read-line in shop-misses (c .before .before .before .before .before .args .line .now) _ (read .result) (read .last .1 .0) (read .ensures) (c .if1 .taken)
+
+returns-2 : tie.Need-returns-2
+returns-2 c = let read = c .before .before .read-line in shop-holds (c .before .before .before .before .before .args .line .now) _ (read .result) (read .last .1 .0) (read .ensures) (c .if1 .left) refl
+
+pub shop-in-spec : {M : Type 1} → statement M
+shop-in-spec =
+    tie.close
+    (tie.spec
+    (λ c. search needs)
+    (λ c κs. search needs)
+    returns
+    (λ c. search needs)
+    (λ c. search needs)
+    (λ c. search needs)
+    (λ c. search needs)
+    (λ c. search needs)
+    (λ c. search needs)
+    (λ c. search needs)
+    (λ c. search needs)
+    returns-2)

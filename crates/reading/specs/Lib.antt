@@ -1,0 +1,2 @@
+pub mod ShopText
+pub mod Work
