@@ -92,7 +92,7 @@ many-denied S owners ms budget room e =
     let z : _≡_ {A = ℕ} 0 1 = cc in absurd (omega arith)
 
 -- the columns of a list are of one length
-columns-same : (ms : List Message) → sameLengths (stationsOf ms) (arrivalsOf ms) (relativesOf ms) (lengthsOf ms) (marks ms) ≡ true
+pub columns-same : (ms : List Message) → sameLengths (stationsOf ms) (arrivalsOf ms) (relativesOf ms) (lengthsOf ms) (marks ms) ≡ true
 columns-same ms =
     let s = length-map ms (λ m. m .station) in
     rw (

@@ -1,0 +1,3 @@
+pub mod ReportLaws
+pub mod KeptLaws
+pub mod AnswerLaws

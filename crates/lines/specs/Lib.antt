@@ -1,0 +1,4 @@
+pub mod Program
+pub mod Promise
+pub mod Examples
+pub mod Work
