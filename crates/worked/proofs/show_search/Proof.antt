@@ -20,7 +20,8 @@ put-log-requires : tie.Need-put-log-requires
 put-log-requires c κs =
     let told = c .before .before in
     let s = told .before .before .before .search in
-    omega (arith, s .kept .1 .1 .1 .0, five _ _ _ _ _ _ refl (s .ensures) (told .found .given .1))
+    let rows = five _ _ _ _ _ _ refl (s .ensures) (told .found .given .1) in
+    (omega (arith, rows), omega (arith, s .kept .1 .1 .1 .0, rows))
 
 pub show-search-spec : {M : Type 1} → statement M
 show-search-spec =
