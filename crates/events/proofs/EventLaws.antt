@@ -1,14 +1,17 @@
 -- One event, by what the calls of its code leave.
-use mathlib.Core.Path.{_≡_, refl, sym, ap, _∙_, subst}
-use mathlib.Core.List.{List, [], _∷_, map}
-use Prim.Native.Nat.{ℕ, zero, suc, _+_, _≤_, _<_}
-use native.Mathlib.Nat.{le-refl}
+use mathlib.Core.Path.{_≡_, refl, sym, ap, subst}
+use mathlib.Core.List.{List, map}
+use Prim.Native.Nat.{ℕ, zero, suc, _≤_, _<_}
 use native.Mathlib.Omega.{arith}
-use lib.ListN.{length, getD, set}
+use lib.ListN.{length, getD}
 use Rattle.rows.specs.declared.Channel.{Channel}
 use Rattle.rows.specs.declared.Channel.the-variants.{Silence, Busy, Collision}
-use Rattle.messages.specs.Message.{none}
-use Rattle.events.specs.Event.{channelOf, usedBy, messageBy}
+use Rattle.messages.specs.declared.Message.{Message}
+use Rattle.messages.proofs.KeptLaws.{bare, bare-set}
+use Rattle.phases.specs.declared.Shop.{Shop}
+use Rattle.phases.specs.declared.State.{State}
+use Rattle.contention.specs.Contenders.{contenders, lastOf}
+use Rattle.events.specs.Event.{channelOf, usedBy, messageBy, marked, eventOn, event}
 use Rattle.events.specs.Work.{SentInside}
 
 -- two contenders or more
@@ -36,3 +39,27 @@ pub message-fits : (c : Channel) (i : ℕ) → i < 65536 → messageBy c i < 655
 message-fits Silence i h = omega arith
 message-fits Busy i h = h
 message-fits Collision i h = omega arith
+
+-- an event by the number of its contenders
+pub event-by : (S : Shop) (table : List ℕ) (ms : List Message) (σ : State) (n : ℕ)
+    → length (contenders S table ms σ) ≡ n
+    → event S table ms σ
+    ≡ eventOn S ms σ (channelOf n) (lastOf (contenders S table ms σ))
+    (usedBy (channelOf n) (map (λ m. m .length) ms) (lastOf (contenders S table ms σ)))
+event-by S table ms σ n e =
+    let i : ℕ = lastOf (contenders S table ms σ) in
+    ap (λ (n : ℕ). eventOn S ms σ (channelOf n) i (usedBy (channelOf n) (map (λ m. m .length) ms) i)) e
+
+-- ---- the messages, but for their slots of sending
+
+bare-marked : (c : Channel) (ms : List Message) (i slot : ℕ) → map bare (marked c ms i slot) ≡ map bare ms
+bare-marked Silence ms i slot = refl
+bare-marked Busy ms i slot = bare-set ms i slot
+bare-marked Collision ms i slot = refl
+
+-- an event leaves them
+pub bare-event : (S : Shop) (table : List ℕ) (ms : List Message) (σ : State)
+    → map bare (event S table ms σ .messages) ≡ map bare ms
+bare-event S table ms σ =
+    let l : List ℕ = contenders S table ms σ in
+    bare-marked (channelOf (length l)) ms (lastOf l) (σ .slot)

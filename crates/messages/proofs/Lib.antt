@@ -1,2 +1,3 @@
 pub mod OrderLaws
 pub mod ListLaws
+pub mod KeptLaws

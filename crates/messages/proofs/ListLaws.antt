@@ -133,7 +133,7 @@ listed-fresh (x ∷ stations) a r l s =
     (listed-fresh stations (drop 1 a) (drop 1 r) (drop 1 l) (drop 1 s))
 
 -- one place of it
-fresh-at : (ms : List Message) (i : ℕ) → i < length ms → getD (fresh ms) i blank ≡ sentAt unsent (getD ms i blank)
+pub fresh-at : (ms : List Message) (i : ℕ) → i < length ms → getD (fresh ms) i blank ≡ sentAt unsent (getD ms i blank)
 fresh-at [] i h = absurd (omega arith)
 fresh-at (m ∷ ms) zero h = refl
 fresh-at (m ∷ ms) (suc i) h = fresh-at ms i (omega arith)

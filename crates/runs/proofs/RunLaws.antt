@@ -28,7 +28,9 @@ use Rattle.wire.specs.Promise.{RunPromise}
 use Rattle.runs.specs.Slots.{slotted, messagesBy}
 use Rattle.runs.specs.Work.{stationsOf, arrivalsOf, relativesOf, lengthsOf, wholeOf, TableRan}
 use Rattle.runs.proofs.ColumnLaws.{map-take, map-drop, listed-columns}
-use Rattle.runs.proofs.SlotLaws.{bare, slotted-append, slotted-own, slotted-bare, same-records}
+use Rattle.messages.proofs.KeptLaws.{bare}
+use Rattle.wire.proofs.KeptLaws.{same-records}
+use Rattle.runs.proofs.SlotLaws.{slotted-append, slotted-own, slotted-bare}
 
 -- ---- the helpers of `run_table`
 

@@ -2,12 +2,12 @@
 use mathlib.Core.Path.{_≡_, refl, sym, ap, _∙_, subst}
 use mathlib.Core.Bool.{Bool, true, false, _&&_}
 use mathlib.Core.Logic.{_⊎_, inl, inr}
-use mathlib.Core.List.{List, [], _∷_, _++_, map}
+use mathlib.Core.List.{List, [], _∷_, _++_}
 use Prim.Native.Nat.{ℕ, suc, _≤_, _<_}
 use native.Mathlib.Nat.{le-of-suc-le-suc, not-suc-le-zero}
 use native.Mathlib.Omega.{arith}
 use lib.Dec.{leb}
-use lib.ListN.{length, take, drop, replicate, length-map, length-replicate, take-append-drop}
+use lib.ListN.{length, take, drop, replicate, length-replicate, take-append-drop}
 use borrow.Author.Tests.{le-leb, lt-leb}
 use Rattle.refusals.specs.declared.Refusal.the-variants.{Messages}
 use Rattle.refusals.specs.declared.Verdict.{Verdict}
@@ -31,7 +31,8 @@ use Rattle.wire.specs.Answer.{readingOf, readingBy, logBy, ranOf}
 use Rattle.runs.specs.declared.Ran.{Ran}
 use Rattle.runs.specs.Slots.{messagesBy}
 use Rattle.runs.specs.Work.{TableRan}
-use Rattle.runs.proofs.SlotLaws.{bare, same-records}
+use Rattle.messages.proofs.KeptLaws.{bare-length}
+use Rattle.wire.proofs.KeptLaws.{same-records}
 use Rattle.runs.proofs.RunLaws.{many-denied, same-reading, same-log}
 use Rattle.shop.specs.Promise.{WithdrawalPromise, ShopPromise}
 
@@ -66,10 +67,6 @@ take-loaded ys h = take-over (replicate 512 blank) ys (subst (λ (k : ℕ). leng
 -- unchanged, whatever the list's length
 pub unchanged : (ys : List Message) → laidOver ys (take (length ys) (loaded ys) ++ drop (length ys) (loaded ys)) ≡ ys
 unchanged ys = ap (laidOver ys) (take-append-drop (length ys) (loaded ys)) ∙ over-over (replicate 512 blank) ys
-
--- the same records are as many
-same-length : (ms ms' : List Message) → map bare ms ≡ map bare ms' → length ms' ≡ length ms
-same-length ms ms' e = sym (length-map ms' bare) ∙ ap length (sym e) ∙ length-map ms bare
 
 -- ---- a withdrawal
 
@@ -135,7 +132,8 @@ module _ (S : Shop) (owners : List ℕ) (ys : List Message) (log : List ℕ) (bu
       → laidOver ys (messagesBy v (ranOf S owners front budget) front ++ drop count (loaded ys)) ≡ messagesBy v (ranOf S owners ys budget) ys
   after Granted e =
       ap (λ (l : List Message). laidOver ys (ranOf S owners l budget .1 .messages ++ drop count (loaded ys))) (e refl)
-      ∙ over-front ys (ranOf S owners ys budget .1 .messages) (drop count (loaded ys)) (same-length ys (ranOf S owners ys budget .1 .messages) (same-records S (tableOf owners) budget ys))
+      ∙ over-front ys (ranOf S owners ys budget .1 .messages) (drop count (loaded ys))
+      (bare-length ys (ranOf S owners ys budget .1 .messages) (sym (same-records S (tableOf owners) budget ys)))
   after (Denied k) e = unchanged ys
 
   -- the promise, from what the table's run and `store` ensure

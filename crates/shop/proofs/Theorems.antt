@@ -19,7 +19,8 @@ use Rattle.inputs.specs.Inputs.{runVerdict, tableOf}
 use Rattle.wire.specs.declared.Outcome.{Outcome}
 use Rattle.wire.specs.Answer.{ranOf}
 use Rattle.runs.specs.Slots.{messagesBy}
-use Rattle.runs.proofs.SlotLaws.{bare, same-records}
+use Rattle.messages.proofs.KeptLaws.{bare}
+use Rattle.wire.proofs.KeptLaws.{same-records}
 use Rattle.withdrawals.specs.declared.Withdrawal.{Withdrawal}
 use Rattle.withdrawals.specs.declared.Withdrawal.the-variants.{Withdrawn}
 use Rattle.withdrawals.specs.Withdrawal.{keptOf}

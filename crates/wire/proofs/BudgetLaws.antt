@@ -1,30 +1,24 @@
 -- No run has more events than its budget.
-use mathlib.Core.Path.{_≡_, refl, sym, ap, _∙_}
-use mathlib.Core.Bool.{Bool, true, false}
-use mathlib.Core.List.{List, [], _∷_}
-use Prim.Native.Nat.{ℕ, zero, suc, _≤_}
+use mathlib.Core.Path.{ap}
+use mathlib.Core.List.{List}
+use Prim.Native.Nat.{ℕ, _≤_}
 use native.Mathlib.Omega.{arith}
 use lib.ListN.{length}
 use Rattle.refusals.specs.declared.Verdict.{Verdict}
 use Rattle.refusals.specs.declared.Verdict.the-variants.{Granted, Refused as Denied}
-use Rattle.rows.specs.declared.Row.{Row}
-use Rattle.messages.specs.Message.{allSent}
 use Rattle.messages.specs.Lists.{listed}
 use Rattle.phases.specs.declared.Shop.{Shop}
 use Rattle.inputs.specs.Inputs.{sameLengths, runVerdict, tableOf}
 use Rattle.wire.specs.declared.Outcome.{Outcome}
-use Rattle.wire.specs.Run.{World, worldAfter, eventIn, start, run}
+use Rattle.wire.specs.Run.{World, start, run}
 use Rattle.wire.specs.Answer.{Reading, readingOf, readingBy, ranOf}
 use Rattle.wire.specs.Promise.{RunPromise}
+use Rattle.wire.proofs.RunLaws.{run-by}
 
 -- a row for each of at most k events
 pub rows-few : (S : Shop) (table : List ℕ) (k : ℕ) (W : World) → length (run S table k W .0) ≤ k
-rows-few S table zero W = omega arith
-rows-few S table (suc k) W = go (allSent (W .messages)) refl (rows-few S table k (worldAfter (eventIn S table W)))
-  where
-    go : (t : Bool) → allSent (W .messages) ≡ t → length (run S table k (worldAfter (eventIn S table W)) .0) ≤ k → length (run S table (suc k) W .0) ≤ suc k
-    go true e h = rw (e, run) (omega arith)
-    go false e h = rw (e, run) (omega (arith, h))
+rows-few S table =
+    run-by S table (λ k W rows last. length rows ≤ k) (λ k W. omega arith) (λ k W last rows h. omega arith)
 
 -- whatever the verdict is
 reading-few : (S : Shop) (owners stations arrivals relatives lengths sent : List ℕ) (budget : ℕ) (v : Verdict)

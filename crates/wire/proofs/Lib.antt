@@ -4,3 +4,4 @@ pub mod RunLaws
 pub mod LoopLaws
 pub mod PromiseLaws
 pub mod BudgetLaws
+pub mod KeptLaws
