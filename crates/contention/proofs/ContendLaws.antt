@@ -33,6 +33,11 @@ contenders-one [] e = absurd (omega arith)
 contenders-one (i ∷ []) e = refl
 contenders-one (i ∷ j ∷ l) e = absurd (omega arith)
 
+-- f of each number below n, added up
+abbrev pub sumBelow : (ℕ → ℕ) → ℕ → ℕ
+sumBelow f zero = 0
+sumBelow f (suc n) = sumBelow f n + f n
+
 -- ---- one station
 
 -- a list of one or none
@@ -57,6 +62,31 @@ module _ (S : Shop) (table : List ℕ) (ms : List Message) (σ : State) (s i : �
       go true e b f = inl (entry-by true b e f)
       go false e false f = inl (entry-by false false e f)
       go false e true f = inr (entry-by false true e f, eqb-false i none e, f)
+
+-- who may not enter adds nothing
+pub entry-barred : (S : Shop) (table : List ℕ) (ms : List Message) (σ : State) (s i : ℕ)
+    → enters S table σ s (deadlineOf (getD ms i blank)) ≡ false → entry S table ms σ s i ≡ []
+entry-barred S table ms σ s i e = go (eqb i none) refl
+  where
+    go : (n : Bool) → eqb i none ≡ n → entry S table ms σ s i ≡ []
+    go true q = entry-by S table ms σ s i true false q e
+    go false q = entry-by S table ms σ s i false false q e
+
+-- the entry of a message that may enter here as it may there
+pub entry-alike : (S : Shop) (table : List ℕ) (ms ns : List Message) (σ τ : State) (s i : ℕ)
+    → enters S table τ s (deadlineOf (getD ns i blank)) ≡ enters S table σ s (deadlineOf (getD ms i blank))
+    → entry S table ns τ s i ≡ entry S table ms σ s i
+unfolding entry
+entry-alike S table ms ns σ τ s i e = ap (λ (b : Bool). oneIf (not (eqb i none) && b) i) e
+
+-- one entry at most
+pub entry-few : (S : Shop) (table : List ℕ) (ms : List Message) (σ : State) (s i : ℕ)
+    → length (entry S table ms σ s i) ≤ 1
+entry-few S table ms σ s i =
+    ⊎-elim
+    (λ e. omega (arith, ap length e))
+    (λ h. omega (arith, ap length (h .0)))
+    (entry-cases S table ms σ s i)
 
 -- the tally with a station, as the code has it: i is the station's first message, m its record, d its deadline, r whether it may enter
 module _ (S : Shop) (table : List ℕ) (ms : List Message) (σ : State) (s : ℕ) (t : Tally) (i : ℕ) (is : i ≡ firstMessage ms (σ .slot) s) where
@@ -85,15 +115,24 @@ Waiting ms slot i = (i < length ms) × (waits slot (getD ms i blank) ≡ true)
 
 module _ (S : Shop) (table : List ℕ) (ms : List Message) (σ : State) where
   -- what station s adds
-  abbrev adds : ℕ → List ℕ
+  abbrev pub adds : ℕ → List ℕ
   adds s = entry S table ms σ s (firstMessage ms (σ .slot) s)
 
+  -- a station below n enters with the message i, its first
+  pub record Entering (n i : ℕ) : Type 0 where
+    pub station : ℕ
+    pub below : station < n
+    pub first : i ≡ firstMessage ms (σ .slot) station
+    pub some : i ≡ none → ⊥
+    pub may : enters S table σ station (deadlineOf (getD ms i blank)) ≡ true
+
   -- none, or one number
-  adds-cases : (s : ℕ) → (adds s ≡ []) ⊎ ((adds s ≡ firstMessage ms (σ .slot) s ∷ []) × Waiting ms (σ .slot) (firstMessage ms (σ .slot) s))
+  adds-cases : (s : ℕ)
+      → (adds s ≡ []) ⊎ ((adds s ≡ firstMessage ms (σ .slot) s ∷ []) × Entering (suc s) (firstMessage ms (σ .slot) s))
   adds-cases s =
       ⊎-elim
       (λ e. inl e)
-      (λ h. inr (h .0, (first-numbered ms (σ .slot) s (h .1), first-waits ms (σ .slot) s (h .1) .1)))
+      (λ h. inr (h .0, record { station = s; below = omega arith; first = refl; some = h .1; may = h .2 }))
       (entry-cases S table ms σ s (firstMessage ms (σ .slot) s))
 
   below-next : (s : ℕ) → contendersBelow S table ms σ (suc s) ≡ contendersBelow S table ms σ s ++ adds s
@@ -126,7 +165,10 @@ module _ (S : Shop) (table : List ℕ) (ms : List Message) (σ : State) where
   below-few zero = omega arith
   below-few (suc s) = more (below-few s) (adds-cases s)
     where
-      more : length (contendersBelow S table ms σ s) ≤ s → (adds s ≡ []) ⊎ ((adds s ≡ firstMessage ms (σ .slot) s ∷ []) × Waiting ms (σ .slot) (firstMessage ms (σ .slot) s))
+      i : ℕ
+      i = firstMessage ms (σ .slot) s
+
+      more : length (contendersBelow S table ms σ s) ≤ s → (adds s ≡ []) ⊎ ((adds s ≡ i ∷ []) × Entering (suc s) i)
           → length (contendersBelow S table ms σ s ++ adds s) ≤ suc s
       more h (inl e) = omega (arith, length-append (contendersBelow S table ms σ s) (adds s), ap length e)
       more h (inr p) = omega (arith, length-append (contendersBelow S table ms σ s) (adds s), ap length (p .0))
@@ -135,17 +177,30 @@ module _ (S : Shop) (table : List ℕ) (ms : List Message) (σ : State) where
   pub tally-few : (s : ℕ) (t : Tally) → t ≡ tallyOf (contendersBelow S table ms σ s) → t .count ≤ s
   tally-few s t e = omega (arith, ap (λ (v : Tally). v .count) e, below-few s)
 
-  -- the last of them is a message that waits
-  below-waits : (n : ℕ) → 0 < length (contendersBelow S table ms σ n) → Waiting ms (σ .slot) (lastOf (contendersBelow S table ms σ n))
+  -- one station more may be asked
+  entering-more : (n i : ℕ) → Entering n i → Entering (suc n) i
+  entering-more n i h = record {
+    station = h .station;
+    below = omega (arith, h .below);
+    first = h .first;
+    some = h .some;
+    may = h .may;
+  }
+
+  -- the last of them is of a station that enters
+  below-enter : (n : ℕ) → 0 < length (contendersBelow S table ms σ n)
+      → Entering n (lastOf (contendersBelow S table ms σ n))
   unfolding contendersBelow
-  below-waits zero h = absurd (omega arith)
-  below-waits (suc s) h = more (contendersBelow S table ms σ s) (below-waits s) (adds s) (firstMessage ms (σ .slot) s) (adds-cases s) h
+  below-enter zero h = absurd (omega arith)
+  below-enter (suc s) h =
+      more (contendersBelow S table ms σ s) (below-enter s) (adds s) (firstMessage ms (σ .slot) s) (adds-cases s) h
     where
-      more : (l : List ℕ) → (0 < length l → Waiting ms (σ .slot) (lastOf l)) → (k : List ℕ) (i : ℕ) → (k ≡ []) ⊎ ((k ≡ i ∷ []) × Waiting ms (σ .slot) i)
-          → 0 < length (l ++ k) → Waiting ms (σ .slot) (lastOf (l ++ k))
+      more : (l : List ℕ) → (0 < length l → Entering s (lastOf l))
+          → (k : List ℕ) (i : ℕ) → (k ≡ []) ⊎ ((k ≡ i ∷ []) × Entering (suc s) i)
+          → 0 < length (l ++ k) → Entering (suc s) (lastOf (l ++ k))
       more l ih k i (inl e) h =
           let same : l ++ k ≡ l = ap (λ (x : List ℕ). l ++ x) e ∙ append-nil l in
-          rw same (ih (omega (arith, ap length same)))
+          rw same (entering-more s (lastOf l) (ih (omega (arith, ap length same))))
       more l ih k i (inr p) h =
           let last : lastOf (l ++ k) ≡ i = ap (λ (x : List ℕ). lastOf (l ++ x)) (p .0) ∙ last-append l i in
           rw last (p .1)
@@ -154,9 +209,30 @@ module _ (S : Shop) (table : List ℕ) (ms : List Message) (σ : State) where
   pub contenders-few : length (contenders S table ms σ) ≤ S .stations
   contenders-few = below-few (S .stations)
 
-  -- WHERE SOME CONTEND, the last one's number is that of a message that waits
+  -- WHERE SOME CONTEND, the last one's number is that of a station's first message
+  pub contenders-enter : 0 < length (contenders S table ms σ)
+      → Entering (S .stations) (lastOf (contenders S table ms σ))
+  contenders-enter h = below-enter (S .stations) h
+
+  -- which is of the station, and waits
+  pub entering-waits : (n i : ℕ) (e : Entering n i) → Waiting ms (σ .slot) i × (getD ms i blank .station ≡ e .station)
+  entering-waits n i e =
+      let some : firstMessage ms (σ .slot) (e .station) ≡ none → ⊥ = λ q. e .some (e .first ∙ q) in
+      let w = first-waits ms (σ .slot) (e .station) some in
+      rw (e .first) ((first-numbered ms (σ .slot) (e .station) some, w .1), w .0)
+
   pub contenders-messages : 0 < length (contenders S table ms σ) → Waiting ms (σ .slot) (lastOf (contenders S table ms σ))
-  contenders-messages h = below-waits (S .stations) h
+  contenders-messages h = entering-waits (S .stations) (lastOf (contenders S table ms σ)) (contenders-enter h) .0
+
+  -- AS MANY AS STATIONS THAT ADD ONE
+  below-number : (n : ℕ) → length (contendersBelow S table ms σ n) ≡ sumBelow (λ s. length (adds s)) n
+  unfolding contendersBelow
+  below-number zero = refl
+  below-number (suc s) =
+      length-append (contendersBelow S table ms σ s) (adds s) ∙ ap (λ (k : ℕ). k + length (adds s)) (below-number s)
+
+  pub contenders-number : length (contenders S table ms σ) ≡ sumBelow (λ s. length (adds s)) (S .stations)
+  contenders-number = below-number (S .stations)
 
 -- ---- a static leaf
 

@@ -9,10 +9,13 @@ use native.Mathlib.Nat.{dvd-of-mod-eq-zero, mod-eq-zero-of-dvd, dvd-mul-left, dv
 use native.Mathlib.Omega.{arith}
 use lib.Dec.{ltb, eqb}
 use lib.ListN.{length, drop, length-take}
+use lib.Seq.{take-all}
 use borrow.Author.Tests.{lt-ltb, le-ltb, eqb-true, eqb-false, eq-eqb, ne-eqb}
 use Rattle.rows.specs.declared.Row.{Row}
+use Rattle.rows.specs.declared.Channel.the-variants.{Collision}
 use Rattle.trees.specs.Shape.{heightOf, nodes, Tree}
-use Rattle.trees.specs.Search.{Look, Rule, lead, children, visit, activeIn, bareLook, bareRule, searchRows}
+use Rattle.trees.specs.Search.{Rule, lead, children, visit}
+use Rattle.trees.specs.Search.{ones, activeIn, bareRow, bareLook, bareRule, searchRows}
 use Rattle.trees.specs.Wire.{nextHeight, nextWidth, walk}
 use Rattle.trees.proofs.Powers.{le-or-lt, pow-dvd, under, power}
 use Rattle.trees.proofs.ShapeLaws.{height-complete}
@@ -262,3 +265,26 @@ search-wire m n leaves k h few = ap (λ (r : List Row × ℕ). r .0)
     (wire-agrees (bareRule leaves) m n h
     (λ slot a. bare-leaf leaves slot a (activeIn leaves a 1) (omega (arith, length-active a (part leaves a 1), ones-le (part leaves a 1), length-take 1 (drop a leaves))))
     0 k few)
+
+-- two active leaves or more: the root's collision, and the walk over its children
+pub search-collides : (m n : ℕ) (leaves : List ℕ) (k : ℕ) → 2 ≤ m → length leaves ≡ m ^ n → 2 ≤ ones leaves
+    → nodes m n ≤ suc k
+    → searchRows m n leaves ≡ bareRow 0 Collision 0 (m ^ n) 65535 ∷ walk (bareRule leaves) m n k 0 (m ^ n / m) 1 .0
+search-collides m n leaves k h e more few =
+    sym (search-wire m n leaves (suc k) h few)
+    ∙ go (activeIn leaves 0 (m ^ n))
+    (omega (arith, length-active 0 (part leaves 0 (m ^ n)), ap ones (take-all (m ^ n) leaves (omega arith))))
+  where
+    go : (l : List ℕ) → 2 ≤ length l
+        → lead {S = ℕ} (bareLook l 0 0 (m ^ n) .rows)
+        (elim (bareLook l 0 0 (m ^ n) .down) as (λ (_ : Bool). List Row × ℕ) [
+          | true ↦ walk (bareRule leaves) m n k 0 (m ^ n / m) (bareLook l 0 0 (m ^ n) .after)
+          | false ↦ elim (ltb (0 + m ^ n) (m ^ n)) as (λ (_ : Bool). List Row × ℕ) [
+            | true ↦
+                walk (bareRule leaves) m n k (0 + m ^ n) (nextWidth m n (0 + m ^ n)) (bareLook l 0 0 (m ^ n) .after)
+            | false ↦ ([], bareLook l 0 0 (m ^ n) .after)
+          ]
+        ]) .0 ≡ bareRow 0 Collision 0 (m ^ n) 65535 ∷ walk (bareRule leaves) m n k 0 (m ^ n / m) 1 .0
+    go [] h = absurd (omega arith)
+    go (p ∷ []) h = absurd (omega arith)
+    go (p ∷ q ∷ l) h = refl
