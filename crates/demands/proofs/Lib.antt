@@ -1,0 +1,4 @@
+pub mod IndexLaws
+pub mod SettledLaws
+pub mod FollowLaws
+pub mod Demand3
