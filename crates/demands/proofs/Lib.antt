@@ -2,3 +2,4 @@ pub mod IndexLaws
 pub mod SettledLaws
 pub mod FollowLaws
 pub mod Demand3
+pub mod RowLaws
