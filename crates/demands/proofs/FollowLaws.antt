@@ -11,24 +11,23 @@ use borrow.Author.Tests.{ltb-true}
 use Rattle.rows.specs.declared.Row.{Row}
 use Rattle.rows.specs.declared.Phase.{Phase}
 use Rattle.rows.specs.declared.Phase.the-variants.{Static as StaticPhase}
-use Rattle.trees.specs.Shape.{heightOf}
 use Rattle.trees.specs.Search.{activeIn, bareLook, bareRule, lead}
 use Rattle.trees.specs.Wire.{nextWidth, walk}
 use Rattle.messages.specs.declared.Message.{Message}
 use Rattle.messages.specs.Message.{blank, sentAt, allSent}
 use Rattle.phases.specs.declared.Shop.{Shop}
-use Rattle.phases.specs.declared.Standing.{Standing}
-use Rattle.phases.specs.declared.Standing.the-variants.{Free, Time, Static}
+use Rattle.phases.specs.declared.Standing.the-variants.{Static}
 use Rattle.phases.specs.declared.State.{State}
-use Rattle.phases.specs.After.{standing, timeOver, timeOn, staticOn}
+use Rattle.phases.specs.After.{standing, timeOn, staticOn}
 use Rattle.phases.specs.Work.{Grown}
-use Rattle.phases.proofs.StandLaws.{grown-power, next-subtree}
+use Rattle.phases.proofs.StandLaws.{grown-power, next-subtree, Outside, time-outside}
 use Rattle.contention.specs.Contenders.{inClass, contenders, lastOf}
 use Rattle.contention.proofs.ContendLaws.{contenders-enter}
-use Rattle.events.specs.Event.{Event, channelOf, phaseOf, eventOn, event}
+use Rattle.events.specs.Event.{Event, channelOf, eventOn, event}
 use Rattle.events.proofs.EventLaws.{event-by}
-use Rattle.wire.specs.Run.{World, worldAfter, eventIn, run}
+use Rattle.wire.specs.Run.{World, worldAfter, run}
 use Rattle.demands.specs.Claims.{ifStatic, staticRows, Quiet, contending, staticHeight, BeginsLike}
+use Rattle.demands.proofs.TreeLaws.{run-outside}
 use Rattle.demands.proofs.SettledLaws.{Collided, Settled, settled-later, settled-behind, settled-busy}
 use Rattle.demands.proofs.SettledLaws.{contenders-settled}
 
@@ -54,52 +53,12 @@ along-cons r o rows others phase state first width al =
 
 -- ---- where no static search goes on
 
-abbrev Outside : Standing → Type 0
-Outside Free = Unit {0}
-Outside (Time a w) = Unit {0}
-Outside (Static a w p) = ⊥
-
-module _ (S : Shop) where
-  over-outside : (slot reference : ℕ) (some : Bool) → Outside (timeOver S slot reference some .standing)
-  over-outside slot reference true = tt
-  over-outside slot reference false = tt
-
-  time-outside : (slot reference : ℕ) (some : Bool) (b : ℕ) → Outside (timeOn S slot reference some b .standing)
-  time-outside slot reference some b = go (ltb b (S .time .leaves))
-    where
-      next : Standing
-      next = Time b (nextWidth (S .time .branches) (heightOf (S .time .branches) (S .time .leaves)) b)
-
-      go : (t : Bool)
-          → Outside ((elim t as (λ (_ : Bool). State) [
-            | true ↦ standing slot reference some next
-            | false ↦ timeOver S slot reference some
-          ]) .standing)
-      go true = tt
-      go false = over-outside slot reference some
-
-  if-outside : (φ : Standing) → Outside φ → (r : Row) (rows : List Row) → ifStatic (phaseOf φ) r rows ≡ []
-  if-outside Free h r rows = refl
-  if-outside (Time a w) h r rows = refl
-  if-outside (Static a w p) h r rows = absurd h
-
-  -- the run's first row is of another phase
-  run-outside : (table : List ℕ) (k : ℕ) (W : World) → Outside (W .state .standing)
-      → staticRows (run S table k W .0) ≡ []
-  run-outside table zero W h = refl
-  run-outside table (suc k) W h = go (allSent (W .messages)) refl
-    where
-      go : (t : Bool) → allSent (W .messages) ≡ t → staticRows (run S table (suc k) W .0) ≡ []
-      go true e = rw (e, run) refl
-      go false e =
-          let E : Event = eventIn S table W in
-          rw (e, run) (if-outside (W .state .standing) h (E .row) (staticRows (run S table k (worldAfter E) .0)))
-
-  -- so it goes like no rows at all
-  along-outside : (table : List ℕ) (k : ℕ) (W : World) → Outside (W .state .standing) → Along (run S table k W .0) []
-  along-outside table k W h =
-      let none = run-outside table k W h in
-      record { alike = rw none tt; whole = λ l. rw none refl }
+-- the run goes like no rows at all
+along-outside : (S : Shop) (table : List ℕ) (k : ℕ) (W : World) → Outside (W .state .standing)
+    → Along (run S table k W .0) []
+along-outside S table k W h =
+    let none = run-outside S table k W h in
+    record { alike = rw none tt; whole = λ l. rw none refl }
 
 -- the static tree has q = m ^ n leaves
 pub static-power : (S : Shop) → Grown (S .index .branches) (S .index .leaves)

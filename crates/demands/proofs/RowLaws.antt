@@ -31,7 +31,7 @@ use Rattle.contention.proofs.ContendLaws.{contenders-messages}
 use Rattle.events.specs.Event.{Event, channelOf, usedBy, eventOn, event}
 use Rattle.events.proofs.EventLaws.{used-few, bare-event}
 use Rattle.inputs.specs.Inputs.{allFit, tableOf, runVerdict}
-use Rattle.inputs.proofs.GrantLaws.{passed, timed-lasting}
+use Rattle.inputs.proofs.GrantLaws.{passed, passed-sound, timed-lasting}
 use Rattle.wire.specs.Run.{World, eventIn, start, run, isSent}
 use Rattle.wire.proofs.CountLaws.{not-sent, was-sent}
 use Rattle.wire.proofs.RunLaws.{run-by}
@@ -40,6 +40,7 @@ use Rattle.wire.proofs.KeptLaws.{same-records}
 use Rattle.demands.specs.Claims.{timesIn, staticRows, ifStatic, searchFrom, Quiet}
 use Rattle.demands.specs.Rows.{OneBehind, endOf, Told, RowsTell}
 use Rattle.demands.proofs.IndexLaws.{bit, times-cons}
+use Rattle.demands.proofs.TreeLaws.{run-in-tree}
 
 -- each message takes a slot at least, and 1,000 at most
 record Lasting (ms : List Message) : Type 0 where
@@ -265,6 +266,7 @@ rows-tell S owners whole ms budget room granted k h =
       once = start-once S (tableOf owners) k ms t;
       no-other = start-no-other S (tableOf owners) k ms t;
       told = t .told;
+      placed = run-in-tree S (passed-sound S owners whole ms budget room p) (tableOf owners) k (start ms) tt tt;
     }
 
 -- ---- a search in which nothing arrives

@@ -114,6 +114,22 @@ passed S owners whole ms budget bytes e =
       room = leb-true _ _ (logged .0);
     }
 
+-- so the shop's numbers are in range
+pub passed-sound : (S : Shop) (owners : List ℕ) (whole : Bool) (ms : List Message) (budget bytes : ℕ)
+    → Passed S owners whole ms budget bytes → Sound S
+passed-sound S owners whole ms budget bytes p =
+    let numbers = both (classFits (S .width) (S .offset)) (leb (S .compression) 8) (p .classes) in
+    let class = fitting (S .width) (S .offset) (numbers .0) in
+    record {
+      time = p .time;
+      static = p .index;
+      stations = within-true 1 32 (S .stations) (p .stations) .1;
+      wide = class .0;
+      width = class .1;
+      offset = class .2;
+      factor = leb-true _ _ (numbers .1);
+    }
+
 pub record Allowed (S : Shop) (owners stations arrivals relatives lengths sent : List ℕ) (budget bytes : ℕ) : Type 0 where
   pub sound : Sound S
   pub owners-few : length owners ≤ 1024
@@ -130,23 +146,14 @@ pub allowed : (S : Shop) (owners stations arrivals relatives lengths sent : List
     → Allowed S owners stations arrivals relatives lengths sent budget bytes
 allowed S owners stations arrivals relatives lengths sent budget bytes e =
     let ms : List Message = listed stations arrivals relatives lengths sent in
-    let p = passed S owners (sameLengths stations arrivals relatives lengths sent) ms budget bytes e in
-    let z = within-true 1 32 (S .stations) (p .stations) in
-    let numbers = both (classFits (S .width) (S .offset)) (leb (S .compression) 8) (p .classes) in
-    let class = fitting (S .width) (S .offset) (numbers .0) in
+    let whole : Bool = sameLengths stations arrivals relatives lengths sent in
+    let p = passed S owners whole ms budget bytes e in
+    let sound = passed-sound S owners whole ms budget bytes p in
     let fewer : length owners ≤ 1024 = omega (arith, p .index .tree .few, p .entries) in
     record {
-      sound = record {
-        time = p .time;
-        static = p .index;
-        stations = z .1;
-        wide = class .0;
-        width = class .1;
-        offset = class .2;
-        factor = leb-true _ _ (numbers .1);
-      };
+      sound = sound;
       owners-few = fewer;
-      owners-small = small-owners (S .stations) owners (z .1) (p .owned);
+      owners-small = small-owners (S .stations) owners (sound .stations) (p .owned);
       table-long = length-table owners fewer;
       long = same-length stations arrivals relatives lengths sent (p .complete)
           (omega (arith, p .count, length-listed stations arrivals relatives lengths sent));

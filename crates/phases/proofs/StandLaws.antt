@@ -1,12 +1,12 @@
 -- Where the wire stands after an event: in its tree, with a reference time that grew little, at the slot told.
-use mathlib.Core.Path.{_≡_, refl, sym, subst}
+use mathlib.Core.Path.{_≡_, refl, sym, ap, subst}
 use mathlib.Core.Bool.{Bool, true, false}
 use Prim.Native.Nat.{ℕ, suc, _+_, _*_, _^_, _/_, _∣_, _≤_, _<_}
 use native.Mathlib.Nat.{le-dest, mul-one, pow-succ', one-le-pow, mul-le-mul, mul-le-mul-left, div-le-self, zero-mod}
 use native.Mathlib.Nat.{dvd-of-mod-eq-zero, mod-eq-zero-of-dvd, dvd-trans, dvd-mul-left, dvd-add-iff-right, le-of-dvd}
 use native.Mathlib.Omega.{arith}
 use lib.Dec.{ltb}
-use borrow.Author.Tests.{ltb-true}
+use borrow.Author.Tests.{ltb-true, ltb-false}
 use Rattle.rows.specs.declared.Channel.{Channel}
 use Rattle.rows.specs.declared.Channel.the-variants.{Silence, Busy, Collision}
 use Rattle.trees.specs.Shape.{heightOf}
@@ -208,3 +208,96 @@ module _ (S : Shop) (slot : ℕ) where
 
   pub after-slot : (σ : State) (c : Channel) → after S slot σ c .slot ≡ slot
   after-slot σ c = slot-in (σ .reference) (σ .sent) c (σ .standing)
+
+-- ---- which standings follow which
+
+-- in no static search
+abbrev pub Outside : Standing → Type 0
+Outside Free = Unit {0}
+Outside (Time a w) = Unit {0}
+Outside (Static a w p) = ⊥
+
+over-outside : (S : Shop) (slot reference : ℕ) (some : Bool) → Outside (timeOver S slot reference some .standing)
+over-outside S slot reference true = tt
+over-outside S slot reference false = tt
+
+-- a time search goes on or is over
+pub time-outside : (S : Shop) (slot reference : ℕ) (some : Bool) (b : ℕ)
+    → Outside (timeOn S slot reference some b .standing)
+time-outside S slot reference some b = go (ltb b (S .time .leaves))
+  where
+    next : Standing
+    next = Time b (nextWidth (S .time .branches) (heightOf (S .time .branches) (S .time .leaves)) b)
+
+    go : (t : Bool)
+        → Outside ((elim t as (λ (_ : Bool). State) [
+          | true ↦ standing slot reference some next
+          | false ↦ timeOver S slot reference some
+        ]) .standing)
+    go true = tt
+    go false = over-outside S slot reference some
+
+-- where it is in a static search, in a subtree of the static tree
+abbrev pub InStatic : Shop → Standing → Type 0
+InStatic S Free = Unit {0}
+InStatic S (Time a w) = Unit {0}
+InStatic S (Static a w p) = Subtree (S .index .branches) (S .index .leaves) a w
+
+outside-in : (S : Shop) (φ : Standing) → Outside φ → InStatic S φ
+outside-in S Free h = tt
+outside-in S (Time a w) h = tt
+outside-in S (Static a w p) h = absurd h
+
+time-in : (S : Shop) (slot reference : ℕ) (some : Bool) (b : ℕ) → InStatic S (timeOn S slot reference some b .standing)
+time-in S slot reference some b =
+    outside-in S (timeOn S slot reference some b .standing) (time-outside S slot reference some b)
+
+module _ (S : Shop) (grown : Grown (S .index .branches) (S .index .leaves)) (slot reference : ℕ) where
+  on-in : (some : Bool) (b p : ℕ) → InStatic S (staticOn S slot reference some b p .standing)
+  on-in some b p = go (ltb b (S .index .leaves)) refl
+    where
+      next : Standing
+      next = Static b (nextWidth (S .index .branches) (heightOf (S .index .branches) (S .index .leaves)) b) p
+
+      go : (t : Bool) → ltb b (S .index .leaves) ≡ t
+          → InStatic S ((elim t as (λ (_ : Bool). State) [
+            | true ↦ standing slot reference some next
+            | false ↦ timeOn S slot slot some (p + 1)
+          ]) .standing)
+      go true e = next-subtree (S .index .branches) (S .index .leaves) grown b (ltb-true b (S .index .leaves) e)
+      go false e = time-in S slot slot some (p + 1)
+
+  down-in : (a w : ℕ) → InStatic S (timeDown S a w)
+  down-in a w = go (ltb 1 w)
+    where
+      go : (t : Bool)
+          → InStatic S (elim t as (λ (_ : Bool). Standing) [
+            | true ↦ Time a (w / S .time .branches)
+            | false ↦ Static 0 (S .index .leaves / S .index .branches) a
+          ])
+      go true = tt
+      go false = root-child (S .index .branches) (S .index .leaves) grown
+
+  -- THE STATIC SUBTREE AFTER AN EVENT, where no single index collides
+  pub after-static : (some : Bool) (c : Channel) (φ : Standing) → InStatic S φ
+      → ((a p : ℕ) → φ ≡ Static a 1 p → c ≡ Collision → ⊥) → InStatic S (afterIn S slot reference some c φ .standing)
+  after-static some Silence Free h f = tt
+  after-static some Busy Free h f = tt
+  after-static some Collision Free h f = tt
+  after-static some Silence (Time a w) h f = time-in S slot reference some (a + w)
+  after-static some Busy (Time a w) h f = time-in S slot slot true (a + w)
+  after-static some Collision (Time a w) h f = down-in a w
+  after-static some Silence (Static a w p) h f = on-in some (a + w) p
+  after-static some Busy (Static a w p) h f = on-in true (a + w) p
+  after-static some Collision (Static a w p) h f =
+      first-child (S .index .branches) (S .index .leaves) grown a w (wide (ltb 1 w) refl) h
+    where
+      m : 2 ≤ S .index .branches
+      m = grown .tree .branches
+
+      wide : (t : Bool) → ltb 1 w ≡ t → 1 < w
+      wide true e = ltb-true 1 w e
+      wide false e =
+          let some = one-le-pow (h .height) (S .index .branches) (omega (arith, m)) in
+          let one : w ≡ 1 = omega (arith, ltb-false 1 w e, h .power, some) in
+          absurd (f a p (ap (λ (x : ℕ). Static a x p) one) refl)
