@@ -25,7 +25,7 @@ use Rattle.phases.specs.declared.Standing.the-variants.{Time}
 use Rattle.phases.specs.After.{standing}
 use Rattle.phases.specs.Work.{Grown}
 use Rattle.phases.proofs.StandLaws.{root-child}
-use Rattle.contention.specs.Contenders.{contenders}
+use Rattle.contention.specs.Contenders.{inClass, contenders}
 use Rattle.contention.proofs.ContendLaws.{contenders-number, entry-few}
 use Rattle.events.specs.Event.{Event}
 use Rattle.events.proofs.EventLaws.{event-by}
@@ -126,8 +126,9 @@ module _ (S : Shop) (table owners : List ℕ) (one : OneIndexEach S owners) (fro
         → StaticSearch S table owners W (rowsOf k E) (suc (suc x)))
         (sym (event-by S table ms (W .state) (suc (suc x)) contend))
         (λ quiet. some-written W (suc (suc x)) more contend _ _ (nodes m n + k) refl (omega arith)
-        (follow {was = W} reference p (record { one = one; front = front; free = λ s d. refl }) grown long
-        k (nodes m n + k) (omega arith) (slot + 1) some 0 (S .index .leaves / m) ms 1
+        (follow {was = W} {fit = λ s d. inClass S reference d (p + 1)} reference p (λ a w s d. refl)
+        (record { one = one; front = front; free = λ s d. refl }) grown long k (nodes m n + k)
+        (omega arith) (slot + 1) some 0 (S .index .leaves / m) ms 1
         (root-child (S .index .branches) (S .index .leaves) grown .inside)
         (record { kept = refl; marks = λ j h. refl; later = omega arith })
         (quiet .1)))

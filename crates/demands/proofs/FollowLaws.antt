@@ -1,6 +1,6 @@
 -- A static search in a run goes as the bare search of those who contend, slot for slot.
 use mathlib.Core.Path.{_≡_, refl, sym, ap, _∙_, subst}
-use mathlib.Core.Bool.{Bool, true, false}
+use mathlib.Core.Bool.{Bool, true, false, _&&_}
 use mathlib.Core.List.{List, [], _∷_}
 use Prim.Native.Nat.{ℕ, zero, suc, _+_, _^_, _/_, _≤_, _<_}
 use native.Mathlib.Nat.{div-le-self}
@@ -21,7 +21,7 @@ use Rattle.phases.specs.declared.State.{State}
 use Rattle.phases.specs.After.{standing, timeOn, staticOn}
 use Rattle.phases.specs.Work.{Grown}
 use Rattle.phases.proofs.StandLaws.{grown-power, next-subtree, Outside, time-outside}
-use Rattle.contention.specs.Contenders.{inClass, contenders, lastOf}
+use Rattle.contention.specs.Contenders.{owns, entersIn, contenders, lastOf}
 use Rattle.contention.proofs.ContendLaws.{contenders-enter}
 use Rattle.events.specs.Event.{Event, channelOf, eventOn, event}
 use Rattle.events.proofs.EventLaws.{event-by}
@@ -67,10 +67,11 @@ static-power S grown =
     grown-power (S .index .branches) (S .index .leaves) grown
     ∙ ap (λ (x : ℕ). S .index .branches ^ x) (sym (grown .height))
 
--- ---- where one goes on, for the time leaf p
+-- ---- where one goes on, for the time leaf p: in a subtree an owner of an index there contends by the collision's test
 
-module _ {S : Shop} {table owners : List ℕ} {was : World} (reference p : ℕ)
-    (c : Collided S table owners (λ s d. inClass S reference d (p + 1)) was)
+module _ {S : Shop} {table owners : List ℕ} {was : World} {fit : ℕ → ℕ → Bool} (reference p : ℕ)
+    (static : (a w s d : ℕ) → entersIn S table reference (Static a w p) s d ≡ (owns table s a w && fit s d))
+    (c : Collided S table owners fit was)
     (grown : Grown (S .index .branches) (S .index .leaves)) (long : length owners ≡ S .index .leaves) where
   abbrev m : ℕ
   m = S .index .branches
@@ -163,7 +164,7 @@ module _ {S : Shop} {table owners : List ℕ} {was : World} (reference p : ℕ)
     by-leaves (x ∷ []) e i used is q =
         along-cons _ _ _ _ refl refl refl refl
         (onward k j ih (slot + used) true (a + w) (set ms i (sentAt slot (getD ms i blank))) (t + 1)
-        (settled-busy c a w (omega (arith, long)) (searching slot some a w ms) settled (λ s d. refl) _ i slot
+        (settled-busy c a w (omega (arith, long)) (searching slot some a w ms) settled (static a w) _ i slot
         (rw is (contenders-enter S table ms σ (omega arith))) refl (omega arith))
         (q .1))
     by-leaves (x ∷ y ∷ l) e i used is q =
@@ -176,7 +177,7 @@ module _ {S : Shop} {table owners : List ℕ} {was : World} (reference p : ℕ)
     event-along q =
         let l : List ℕ = activeIn (contending S table owners was) a w in
         let e : length (contenders S table ms σ) ≡ length l =
-        contenders-settled c a w (omega (arith, long)) (searching slot some a w ms) settled (λ s d. refl) (q .0) in
+        contenders-settled c a w (omega (arith, long)) (searching slot some a w ms) settled (static a w) (q .0) in
         subst (λ (E : Event). Calm (rowsOf E) → Along (rowsOf E) (visitsOf l))
         (sym (event-by S table ms σ (length l) e))
         (by-leaves l e _ _ refl) q
