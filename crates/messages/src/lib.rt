@@ -15,6 +15,7 @@ pub const UNSENT: u32 = 4294967295;
 // In place of a message's number where there is none.
 pub const NO_MESSAGE: u32 = 65535;
 
+#[repr(C)]
 pub struct Message {
     pub station: u32,
     pub arrival: u32,

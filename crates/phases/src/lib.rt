@@ -11,12 +11,14 @@ ghost use Rattle.phases.specs.After.{timeStart, timeOver, timeOn, static
 ghost use Rattle.phases.specs.Work.{Sound, Within};
 
 // A tree: branches at each node, leaves in all.
+#[repr(C)]
 pub struct Shape {
     pub branches: u32,
     pub leaves: u32,
 }
 
 // The numbers of a shop: stations, class width, offset, compression factor, the time tree and the tree of static indices.
+#[repr(C)]
 pub struct Shop {
     pub stations: u32,
     pub width: u32,
