@@ -61,6 +61,21 @@ pub enum Fault {
     EmptyLine,
 }
 
+impl Fault {
+    /// The call that goes wrong.
+    pub fn call(self) -> &'static str {
+        match self as u8 {
+            1..=4 => "withdraw",
+            5..=6 => "class",
+            7..=8 => "worst_count",
+            9..=10 => "place",
+            11..=13 => "search",
+            14..=24 => "run",
+            _ => "program",
+        }
+    }
+}
+
 /// Every fault, in order.
 pub const ALL: [Fault; 26] = [
     Fault::WithdrawalSkips,
