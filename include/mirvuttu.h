@@ -1,16 +1,16 @@
 /* Mirvuttu for C: what a shop's wire does with its messages (docs/RULES.md).
  *
- * The functions stand in libexports.a, which `rt staticlib exports` writes below target/staticlib/. They are proved: each
- * keeps docs/RULES.md for every input. No number and no length is out of bounds to them; what is bad is refused.
+ * The functions stand in libexports.a, which `rt staticlib exports` writes below target/staticlib/. They are proved:
+ * each keeps docs/RULES.md for every input. No number and no length is out of bounds to them; what is bad is refused.
  *
- * Each answer begins with or holds a refusal's number, 0 for none. Where it is not 0, every other figure is 0 (false) and
- * every lent buffer is as it was. Where several refusals apply, the lowest number is told; a run asks 1 and 2 of its time
- * tree, then 1 and 2 of its static tree, then goes on.
+ * Each answer begins with or holds a refusal's number, 0 for none. Where it is not 0, every other figure is 0 (false)
+ * and every lent buffer is as it was. Where several refusals apply, the lowest number is told; a run asks 1 and 2 of
+ * its time tree, then 1 and 2 of its static tree, then goes on.
  *
- * What a caller owes: a pointer with a count is that many items, aligned as C has it, that nobody else writes during the
- * call; two buffers of one call do not overlap; where a count is 0 the pointer is not followed, but it is not null. No
- * function keeps a pointer, allocates, or calls anything but memcpy and memset, and any number of threads may call at once
- * with buffers of their own. docs/PERFORMANCE.md has the stack that each wants.
+ * What a caller owes: a pointer with a count is that many items, aligned as C has it, that nobody else writes during
+ * the call; two buffers of one call do not overlap; where a count is 0 the pointer is not followed, but it is not null.
+ * No function keeps a pointer, allocates, or calls anything but memcpy and memset, and any number of threads may call
+ * at once with buffers of their own. docs/PERFORMANCE.md has the stack that each wants.
  */
 #ifndef MIRVUTTU_H
 #define MIRVUTTU_H
@@ -61,9 +61,9 @@ struct mirvuttu_run_numbers {
     uint32_t late; /* messages sent whose end lies after their absolute deadline */
 };
 
-/* Runs a shop. `owners` names the station that owns each static index. The log needs room for 16 * budget bytes and gets a
- * row of 16 bytes for each event (docs/RULES.md, section 4); the bytes behind the last row stay as they were. The messages'
- * slots of sending are set.
+/* Runs a shop. `owners` names the station that owns each static index. The log needs room for 16 * budget bytes and
+ * gets a row of 16 bytes for each event (docs/RULES.md, section 4); the bytes behind the last row stay as they were.
+ * The messages' slots of sending are set.
  * Refuses 1, 2, 6, 7, 8, 9, 10 and 11. */
 struct mirvuttu_run_numbers mirvuttu_run(struct mirvuttu_shop shop, const uint32_t *owners, size_t owners_count,
                                          struct mirvuttu_message *messages, size_t messages_count, uint8_t *log,
@@ -84,8 +84,8 @@ struct mirvuttu_withdrawal_numbers {
     uint32_t withdrawn;
 };
 
-/* Withdraws a station's messages. The kept ones move to the front in their order and zeros follow; from then on the first
- * `kept` places are the list, and only they are lent to the next call.
+/* Withdraws a station's messages. The kept ones move to the front in their order and zeros follow; from then on the
+ * first `kept` places are the list, and only they are lent to the next call.
  * Refuses 6 (station above 31) and 9 (more than 512 messages). */
 struct mirvuttu_withdrawal_numbers mirvuttu_withdraw(struct mirvuttu_message *messages, size_t messages_count,
                                                      uint32_t station);
@@ -118,7 +118,8 @@ struct mirvuttu_count_numbers {
 /* The most silent and colliding slots that k active leaves can cost. Refuses 1, 2 and 5. */
 struct mirvuttu_count_numbers mirvuttu_worst_count(uint32_t m, uint32_t t, uint32_t k);
 
-/* Writes k active leaves that cost exactly that into a list of t bytes; answers a refusal's number. Refuses 1, 2, 3, 5. */
+/* Writes k active leaves that cost exactly that into a list of t bytes; answers a refusal's number.
+ * Refuses 1, 2, 3 and 5. */
 uint32_t mirvuttu_place(uint32_t m, uint32_t t, uint32_t k, uint8_t *leaves, size_t leaves_count);
 
 #ifdef __cplusplus

@@ -52,9 +52,9 @@ impl Case for Class {
             random.within(0, 1_000_000)
         };
         let reference = if small {
-            random.next() % 150
+            random.number() % 150
         } else {
-            random.next() % (FAR + 1)
+            random.number() % (FAR + 1)
         };
         let mut class = Class {
             deadline,

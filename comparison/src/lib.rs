@@ -8,5 +8,7 @@ pub mod run;
 pub mod search;
 pub mod text;
 pub mod traffic;
+pub mod traffic_limits;
+pub mod traffic_smaller;
 pub mod trees;
 pub mod withdrawal;

@@ -3,10 +3,10 @@
 //!     comparison calls [SEED [COUNT]]          every limit, then COUNT random cases
 //!     comparison case SEED NUMBER              one random case again
 //!     comparison texts PROGRAM [SEED [COUNT]]  the same for the program that reads a shop as text
-//!     comparison faults                        the errors that a build with the feature `wrong` can commit, and in which call
+//!     comparison faults                        the errors that a build with the feature `wrong` can commit, by call
 //!
-//! With FAULT=NAME in the environment, such a build commits that error. The last line says how many cases were equal. The
-//! status is 0 where all were, 1 where a case differed, and 2 where the comparison itself could not be had.
+//! With FAULT=NAME in the environment, such a build commits that error. The last line says how many cases were equal.
+//! The status is 0 where all were, 1 where a case differed, and 2 where the comparison itself could not be had.
 
 use comparison::case::{shrunk, Case, Tally};
 use comparison::class::Class;
@@ -74,7 +74,7 @@ fn list_faults() -> Option<bool> {
 
 /// Runs one case; prints the smallest input where it differs.
 fn equal<C: Case>(case: &C, seed: u64, number: u64, again: &str, tally: &mut Tally) -> bool {
-    let noise = || Random::of_case(seed ^ 0x6e6f_6973_65, number);
+    let noise = || Random::of_case(!seed, number);
     let seen = case.run(&mut noise());
     tally.note(C::CALL, seen.answer);
     if seen.difference.is_none() {

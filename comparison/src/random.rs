@@ -7,11 +7,11 @@ impl Random {
     /// The numbers of one case, whatever cases came before it.
     pub fn of_case(seed: u64, case: u64) -> Random {
         let mut random = Random(seed ^ case.wrapping_mul(0x9e37_79b9_7f4a_7c15));
-        random.next();
+        random.number();
         random
     }
 
-    pub fn next(&mut self) -> u64 {
+    pub fn number(&mut self) -> u64 {
         self.0 = self.0.wrapping_add(0x9e37_79b9_7f4a_7c15);
         let mut z = self.0;
         z = (z ^ (z >> 30)).wrapping_mul(0xbf58_476d_1ce4_e5b9);
@@ -22,7 +22,7 @@ impl Random {
     /// A number from `low` to `high`, both in it.
     pub fn within(&mut self, low: u32, high: u32) -> u32 {
         let span = u64::from(high - low) + 1;
-        low + (self.next() % span) as u32
+        low + (self.number() % span) as u32
     }
 
     pub fn one_in(&mut self, times: u32) -> bool {
@@ -37,7 +37,7 @@ impl Random {
     pub fn near(&mut self, low: u32, high: u32) -> u32 {
         let edges = edges(low, high);
         match self.within(0, edges.len() as u32 + 1) as usize {
-            0 => self.next() as u32,
+            0 => self.number() as u32,
             1 => self.within(low, high),
             place => edges[place - 2],
         }
@@ -47,7 +47,7 @@ impl Random {
     pub fn noise(&mut self, length: usize) -> Vec<u8> {
         let mut bytes = Vec::with_capacity(length + 8);
         while bytes.len() < length {
-            bytes.extend_from_slice(&self.next().to_le_bytes());
+            bytes.extend_from_slice(&self.number().to_le_bytes());
         }
         bytes.truncate(length);
         bytes

@@ -4,6 +4,8 @@ use crate::case::{unequal, unequal_lists, Case, Lent, Seen};
 use crate::product::{self, Fields, RunNumbers};
 use crate::random::Random;
 use crate::traffic::Traffic;
+use crate::traffic_limits::limits;
+use crate::traffic_smaller::smaller;
 use crate::withdrawal::LentRecords;
 use independent::message::Message;
 use independent::run;
@@ -59,7 +61,7 @@ impl Case for Run {
     const ANSWERS: &'static [&'static str] = ANSWERS;
 
     fn limits() -> Vec<Run> {
-        Traffic::limits().into_iter().map(Run).collect()
+        limits().into_iter().map(Run).collect()
     }
 
     fn random(random: &mut Random) -> Run {
@@ -83,7 +85,7 @@ impl Case for Run {
     }
 
     fn smaller(&self) -> Vec<Run> {
-        self.0.smaller().into_iter().map(Run).collect()
+        smaller(&self.0).into_iter().map(Run).collect()
     }
 }
 
@@ -126,7 +128,7 @@ impl Case for RunFields {
     const ANSWERS: &'static [&'static str] = ANSWERS;
 
     fn limits() -> Vec<RunFields> {
-        let mut all: Vec<_> = Traffic::limits()
+        let mut all: Vec<_> = limits()
             .into_iter()
             .map(|traffic| RunFields { traffic, odd: 5 })
             .collect();
@@ -174,8 +176,7 @@ impl Case for RunFields {
 
     fn smaller(&self) -> Vec<RunFields> {
         let odd = self.odd;
-        self.traffic
-            .smaller()
+        smaller(&self.traffic)
             .into_iter()
             .map(|traffic| RunFields { traffic, odd })
             .collect()

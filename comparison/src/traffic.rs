@@ -1,8 +1,7 @@
 //! Shops and their messages, for the cases of runs and of texts.
 
-use crate::case::{less, shorter};
-use crate::random::{edges, Random};
-use crate::trees::{all_trees, limit_trees, odd_tree, tree};
+use crate::random::Random;
+use crate::trees::{odd_tree, tree};
 use independent::message::Message;
 use independent::shop::{Shape, Shop, FREE};
 
@@ -137,176 +136,6 @@ impl Traffic {
         let place = random.within(0, self.messages.len() as u32) as usize;
         self.messages.insert(place, one);
     }
-
-    /// A shop of two stations that collide, to be changed in one place.
-    fn plain() -> Traffic {
-        Traffic {
-            shop: Shop {
-                stations: 2,
-                width: 10,
-                offset: 0,
-                compression: 1,
-                time: shape((2, 4)),
-                fixed: shape((2, 2)),
-            },
-            owners: vec![0, 1],
-            messages: vec![
-                message_of(0, 0, 25, 3),
-                message_of(1, 0, 28, 2),
-                message_of(0, 0, 100, 1),
-            ],
-            budget: 9,
-            roomier: 3,
-        }
-    }
-
-    /// Each number at the ends of its range and one past them, and each budget at which the run of docs/RULES.md can end.
-    pub fn limits() -> Vec<Traffic> {
-        let mut all = Vec::new();
-        let mut with = |change: &dyn Fn(&mut Traffic)| {
-            let mut traffic = Traffic::plain();
-            change(&mut traffic);
-            all.push(traffic);
-        };
-        for (m, t) in limit_trees() {
-            with(&|one| one.shop.time = shape((m, t)));
-            with(&|one| {
-                one.shop.fixed = shape((m, t));
-                one.owners = (0..t.min(1_025))
-                    .map(|index| if index < 2 { index } else { FREE })
-                    .collect();
-            });
-        }
-        for stations in edges(1, 32) {
-            with(&|one| {
-                one.shop.stations = stations;
-                one.shop.fixed = shape((2, 64));
-                one.owners = (0..64).map(|index| index % stations.clamp(1, 33)).collect();
-            });
-        }
-        for number in edges(1, 1_000_000) {
-            with(&|one| one.shop.width = number);
-            with(&|one| one.shop.offset = number);
-            with(&|one| one.budget = number);
-        }
-        for number in edges(0, 8) {
-            with(&|one| one.shop.compression = number);
-        }
-        for owner in [0, 1, 2, 3, 31, 32, 254, 255, 256, u32::MAX] {
-            with(&|one| one.owners[1] = owner);
-            with(&|one| one.owners.push(owner));
-        }
-        for budget in 1..10 {
-            with(&|one| one.budget = budget);
-            with(&|one| (one.budget, one.roomier) = (budget, -1));
-        }
-        all.extend(Traffic::message_limits());
-        all
-    }
-
-    fn message_limits() -> Vec<Traffic> {
-        let mut all = Vec::new();
-        let mut with = |one: Message| {
-            for place in [0, 3] {
-                let mut traffic = Traffic::plain();
-                traffic.messages.insert(place, one);
-                all.push(traffic);
-            }
-        };
-        for number in edges(0, 1_000_000_000) {
-            with(message_of(0, number, 9, 1));
-            with(message_of(0, 0, number, 1));
-        }
-        for number in edges(1, 1_000) {
-            with(message_of(0, 0, 9, number));
-            with(message_of(number, 0, 9, 1));
-        }
-        for count in [0, 1, 511, 512, 513, 600] {
-            let mut traffic = Traffic::plain();
-            traffic.messages = (0..count)
-                .map(|number| message_of(number % 2, number / 3, 40, 1 + number % 3))
-                .collect();
-            traffic.budget = 60;
-            all.push(traffic);
-        }
-        all.push(Traffic { owners: Vec::new(), messages: Vec::new(), ..Traffic::plain() });
-        all
-    }
-
-    /// With fewer stations or with smaller trees.
-    fn smaller_shops(&self) -> Vec<Traffic> {
-        let mut all = Vec::new();
-        for stations in less(self.shop.stations).into_iter().filter(|&stations| stations > 0) {
-            let mut one = self.clone();
-            one.shop.stations = stations;
-            one.owners
-                .iter_mut()
-                .filter(|owner| **owner >= stations)
-                .for_each(|owner| *owner = FREE);
-            one.messages.retain(|message| message.station < stations);
-            all.push(one);
-        }
-        for (m, t) in all_trees() {
-            if t < self.shop.time.leaves {
-                let mut one = self.clone();
-                one.shop.time = shape((m, t));
-                all.push(one);
-            }
-            if t < self.shop.fixed.leaves {
-                let mut one = self.clone();
-                one.shop.fixed = shape((m, t));
-                let owner = |index| if index < self.shop.stations { index } else { FREE };
-                one.owners = (0..t).map(owner).collect();
-                all.push(one);
-            }
-        }
-        all
-    }
-
-    /// With something taken away, the largest parts first.
-    pub fn smaller(&self) -> Vec<Traffic> {
-        let mut all = self.smaller_shops();
-        all.extend(
-            shorter(&self.messages)
-                .into_iter()
-                .map(|messages| Traffic { messages, ..self.clone() }),
-        );
-        all.extend(
-            less(self.budget)
-                .into_iter()
-                .map(|budget| Traffic { budget, ..self.clone() }),
-        );
-        let mut with = |change: &dyn Fn(&mut Traffic)| {
-            let mut traffic = self.clone();
-            change(&mut traffic);
-            all.push(traffic);
-        };
-        less(self.shop.width)
-            .into_iter()
-            .for_each(|number| with(&|one| one.shop.width = number));
-        less(self.shop.offset)
-            .into_iter()
-            .for_each(|number| with(&|one| one.shop.offset = number));
-        less(self.shop.compression)
-            .into_iter()
-            .for_each(|number| with(&|one| one.shop.compression = number));
-        for place in 0..self.messages.len() {
-            let message = self.messages[place];
-            less(message.arrival)
-                .into_iter()
-                .for_each(|number| with(&|one| one.messages[place].arrival = number));
-            less(message.relative)
-                .into_iter()
-                .for_each(|number| with(&|one| one.messages[place].relative = number));
-            less(message.length)
-                .into_iter()
-                .for_each(|number| with(&|one| one.messages[place].length = number));
-        }
-        if self.roomier > 0 {
-            with(&|one| one.roomier = 0);
-        }
-        all
-    }
 }
 
 /// Mostly small shops, at times larger ones, seldom the largest.
@@ -319,11 +148,13 @@ fn size(random: &mut Random) -> Size {
     Size { leaves, stations, messages, budget }
 }
 
-fn shape((branches, leaves): (u32, u32)) -> Shape {
+/// A tree that is not checked.
+pub fn shape((branches, leaves): (u32, u32)) -> Shape {
     Shape { branches, leaves }
 }
 
-fn message_of(station: u32, arrival: u32, relative: u32, length: u32) -> Message {
+/// A message with these numbers, and anything as its slot of sending.
+pub fn message_of(station: u32, arrival: u32, relative: u32, length: u32) -> Message {
     Message { station, arrival, relative, length, sent: 0x5e5e_5e5e }
 }
 

@@ -123,7 +123,8 @@ pub struct Place {
 }
 
 impl Place {
-    /// The list must hold k ones and else zeros, and cost the worst count. Which leaves they are is the builder's choice.
+    /// The list must hold k ones and else zeros, and cost the worst count. Which leaves they are is the builder's
+    /// choice.
     fn judged(&self, list: &[u8]) -> Option<String> {
         let ones = list.iter().filter(|&&leaf| leaf == 1).count() as u32;
         let cost = placement::cost(self.m, self.t, list);

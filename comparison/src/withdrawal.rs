@@ -17,10 +17,10 @@ pub struct Withdraw {
 pub fn any_record(random: &mut Random, station: u32) -> Message {
     Message {
         station,
-        arrival: random.next() as u32,
-        relative: random.next() as u32,
-        length: random.next() as u32,
-        sent: random.next() as u32,
+        arrival: random.number() as u32,
+        relative: random.number() as u32,
+        length: random.number() as u32,
+        sent: random.number() as u32,
     }
 }
 

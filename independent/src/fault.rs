@@ -1,7 +1,7 @@
 //! Deliberate errors, to show that the comparison can fail.
 //!
-//! Without the feature `wrong` every question below is answered no when the program is built, and nothing of this is left
-//! in it. With it, the comparison chooses one error for the whole process.
+//! Without the feature `wrong` every question below is answered no when the program is built, and nothing of this is
+//! left in it. With it, the comparison chooses one error for the whole process.
 
 /// An error that somebody might make, and the call that it spoils.
 #[derive(Clone, Copy, Debug, PartialEq, Eq)]

@@ -8,8 +8,8 @@ use crate::shop::STATIONS_MAX;
 const NOTHING: i32 = i32::MAX;
 const WORD: usize = 64;
 
-/// Messages ranked by station, then deadline, arrival and number. Those that wait are bits by rank, so a station's first
-/// message is its lowest bit, and the deadlines of the first messages are at hand for every slot.
+/// Messages ranked by station, then deadline, arrival and number. Those that wait are bits by rank, so a station's
+/// first message is its lowest bit, and the deadlines of the first messages are at hand for every slot.
 pub struct Queues {
     /// Station, absolute deadline, arrival and number of each rank, as one number from high to low.
     ranked: [u128; MESSAGES_MAX],

@@ -112,7 +112,7 @@ fn a_late_message_enters_at_once_and_counts_as_late() {
     let mut messages = [message(0, 0, 1, 1), message(1, 0, 1, 1)];
     let mut log = [0; 16 * 20];
     let answer = run(&shop(), &[0, 1], &mut messages, &mut log, 20).unwrap();
-    // Collisions in the free slot, the left half and leaf 0; then one sending for each index; then leaf 1 and the right half.
+    // Collisions in the free slot, the left half and leaf 0; then one sending for each index, and all is sent.
     let expected = [
         [0, 0, 2, 0, 0, NONE, 1],
         [1, 1, 2, 0, 2, NONE, 1],
