@@ -1,6 +1,7 @@
 // Exports: the public calls for C, Rust and scripts (include/mirvuttu.h says how they are called).
-// Each makes the call and gives its answer as numbers: a refusal's number, 0 for none, and the figures, 0 where refused.
-// Uses refusals, trees, searches, counts, placements, classes, messages, phases, inputs, wire, runs, withdrawals and shop.
+// Each makes the call and gives its answer as numbers: a refusal's number, 0 for none, and the figures.
+// Uses refusals, trees, searches, counts, placements, classes, messages, phases, inputs, wire, runs, withdrawals,
+// and shop.
 use classes::Class;
 use counts::Count;
 use messages::Message;
