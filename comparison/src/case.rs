@@ -56,10 +56,10 @@ impl Tally {
     }
 
     /// The kinds of answer that a call never came to.
-    pub fn missing<C: Case>(&self) -> Vec<String> {
-        let seen = |answer: &&&str| !self.counts.contains_key(&(C::CALL, answer.to_string()));
-        let missing = C::ANSWERS.iter().filter(seen);
-        missing.map(|answer| format!("{}: {answer}", C::CALL)).collect()
+    pub fn missing(&self, call: &'static str, answers: &[&str]) -> Vec<String> {
+        let unseen = |answer: &&&str| !self.counts.contains_key(&(call, answer.to_string()));
+        let missing = answers.iter().filter(unseen);
+        missing.map(|answer| format!("{call}: {answer}")).collect()
     }
 }
 

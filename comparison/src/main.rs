@@ -129,19 +129,26 @@ fn compare_calls(seed: u64, count: u64) -> Option<bool> {
     Some(count == 0 || saw_every_answer(&tally))
 }
 
-/// A comparison in which a call never came to one of its answers shows too little.
+fn unseen<C: Case>(tally: &Tally) -> Vec<String> {
+    tally.missing(C::CALL, C::ANSWERS)
+}
+
 fn saw_every_answer(tally: &Tally) -> bool {
     let missing = [
-        tally.missing::<Search>(),
-        tally.missing::<Count>(),
-        tally.missing::<Place>(),
-        tally.missing::<Class>(),
-        tally.missing::<Withdraw>(),
-        tally.missing::<Run>(),
-        tally.missing::<RunFields>(),
-    ]
-    .concat();
-    for answer in &missing {
+        unseen::<Search>(tally),
+        unseen::<Count>(tally),
+        unseen::<Place>(tally),
+        unseen::<Class>(tally),
+        unseen::<Withdraw>(tally),
+        unseen::<Run>(tally),
+        unseen::<RunFields>(tally),
+    ];
+    none_missing(&missing.concat())
+}
+
+/// A comparison in which a call never came to one of its answers shows too little.
+fn none_missing(missing: &[String]) -> bool {
+    for answer in missing {
         println!("never seen: {answer}");
     }
     missing.is_empty()
@@ -158,9 +165,11 @@ fn compare_texts(program: &str, seed: u64, count: u64) -> Option<bool> {
     let limits = text::limit_texts();
     let whole = limits.len();
     let random = (0..count).map(|number| text::random_text(&mut Random::of_case(seed, number)));
+    let mut tally = Tally::default();
     for input in limits.into_iter().chain(random) {
-        let found = text::difference(program, &input).ok()?;
-        if let Some(how) = found {
+        let seen = text::compared(program, &input).ok()?;
+        tally.note("program", seen.answer);
+        if let Some(how) = seen.difference {
             let shortest = text::shrunk(program, &input).ok()?;
             println!("program differs: {how}");
             println!("shortest input found: {:?}", String::from_utf8_lossy(&shortest));
@@ -168,6 +177,7 @@ fn compare_texts(program: &str, seed: u64, count: u64) -> Option<bool> {
             return Some(false);
         }
     }
+    tally.print();
     println!("{whole} texts at the limits and {count} of seed {seed} were equal");
-    Some(true)
+    Some(none_missing(&tally.missing("program", &text::ANSWERS)))
 }

@@ -1,6 +1,6 @@
 //! Texts for the program: shops written down, whole and damaged.
 
-use crate::case::{less, shorter};
+use crate::case::{less, shorter, Seen};
 use crate::random::Random;
 use crate::traffic::Traffic;
 use independent::shop::Shop;
@@ -25,22 +25,41 @@ pub fn said(program: &str, input: &[u8]) -> io::Result<Vec<u8>> {
     Ok(output)
 }
 
-/// How the program's output differs from the independent program's.
-pub fn difference(program: &str, input: &[u8]) -> io::Result<Option<String>> {
+/// Every kind of answer that the texts must have come to. A budget and a log are the program's own, so they never fail.
+pub const ANSWERS: [&str; 9] = [
+    "done",
+    "budget",
+    "refused 1",
+    "refused 2",
+    "refused 6",
+    "refused 7",
+    "refused 8",
+    "refused 9",
+    "refused 13",
+];
+
+/// Runs the program and the independent one on an input.
+pub fn compared(program: &str, input: &[u8]) -> io::Result<Seen> {
     let (proved, own) = (said(program, input)?, answer(input));
-    let place = proved
-        .iter()
-        .zip(&own)
-        .position(|(a, b)| a != b)
-        .unwrap_or(proved.len().min(own.len()));
+    let place = proved.iter().zip(&own).position(|(a, b)| a != b);
+    let place = place.unwrap_or(proved.len().min(own.len()));
     let tail = |output: &[u8]| String::from_utf8_lossy(&output[place..output.len().min(place + 40)]).into_owned();
-    Ok((proved != own).then(|| {
-        format!(
-            "output from byte {place}: proved {:?}, independent {:?}",
-            tail(&proved),
-            tail(&own)
-        )
-    }))
+    let (left, right) = (tail(&proved), tail(&own));
+    let difference = format!("output from byte {place}: proved {left:?}, independent {right:?}");
+    Ok(Seen {
+        answer: kind(&proved),
+        difference: (proved != own).then_some(difference),
+    })
+}
+
+/// The refusal, or the first word of the last line.
+fn kind(output: &[u8]) -> String {
+    let text = String::from_utf8_lossy(output);
+    let last = text.lines().last().unwrap_or_default();
+    if last.starts_with("refused") {
+        return last.to_string();
+    }
+    last.split(' ').next().unwrap_or_default().to_string()
 }
 
 /// A text: a shop as it is, or damaged.
@@ -172,7 +191,7 @@ pub fn shrunk(program: &str, input: &[u8]) -> io::Result<Vec<u8>> {
     'again: while tries < 600 {
         for candidate in shorter_texts(&shortest) {
             tries += 1;
-            if difference(program, &candidate)?.is_some() {
+            if compared(program, &candidate)?.difference.is_some() {
                 shortest = candidate;
                 continue 'again;
             }

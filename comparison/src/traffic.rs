@@ -107,7 +107,12 @@ impl Traffic {
     }
 
     fn damage_owners(&mut self, random: &mut Random) {
-        let place = random.within(0, self.owners.len() as u32 - 1) as usize;
+        // An earlier damage may have taken the last owner away.
+        let Some(last) = self.owners.len().checked_sub(1) else {
+            self.owners.push(FREE);
+            return;
+        };
+        let place = random.within(0, last as u32) as usize;
         match random.within(0, 4) {
             0 => self.owners.push(FREE),
             1 => {
