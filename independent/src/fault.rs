@@ -64,14 +64,15 @@ pub enum Fault {
 impl Fault {
     /// The call that goes wrong.
     pub fn call(self) -> &'static str {
-        match self as u8 {
-            1..=4 => "withdraw",
-            5..=6 => "class",
-            7..=8 => "worst_count",
-            9..=10 => "place",
-            11..=13 => "search",
-            14..=24 => "run",
-            _ => "program",
+        use Fault::*;
+        match self {
+            WithdrawalSkips | WithdrawalLeavesTail | WithdrawalInvents | WithdrawalTakesAll => "withdraw",
+            ClassToZero | ClassOrder => "class",
+            WorstGrows | WorstTakesAnyCount => "worst_count",
+            PlacementCost | PlacementTakesLongLists => "place",
+            SearchDropsChild | SearchTakesAnyRoom | SearchWritesBehind => "search",
+            ElevenDigits | EmptyLine => "program",
+            _ => "run",
         }
     }
 }

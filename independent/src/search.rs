@@ -23,7 +23,7 @@ pub fn search(branches: u32, leaves: u32, active: &[u8], log: &mut [u8]) -> Resu
     let mut visits = Visits::new(active, log);
     visits.visit(branches as usize, 0, tree.leaves());
     if commits(Fault::SearchWritesBehind) {
-        visits.log[0][0] ^= 1;
+        visits.log.iter_mut().take(1).for_each(|behind| behind[0] ^= 1);
     }
     Ok(visits.found)
 }
