@@ -122,6 +122,14 @@ struct mirvuttu_count_numbers mirvuttu_worst_count(uint32_t m, uint32_t t, uint3
  * Refuses 1, 2, 3 and 5. */
 uint32_t mirvuttu_place(uint32_t m, uint32_t t, uint32_t k, uint8_t *leaves, size_t leaves_count);
 
+/* The room that every text of mirvuttu_answer fits into. */
+#define MIRVUTTU_OUTPUT_ROOM 262144u
+
+/* The program's answer to the text of a shop (docs/RULES.md, section 12): its log and closing figures as text, or the
+ * line of a refusal. Answers how many bytes were written; those behind them stay as they were. An output with less
+ * room than MIRVUTTU_OUTPUT_ROOM is left as it was, and the answer is 0. */
+size_t mirvuttu_answer(const uint8_t *input, size_t input_count, uint8_t *output, size_t output_room);
+
 #ifdef __cplusplus
 }
 #endif

@@ -1,5 +1,6 @@
 //! The proved calls and the independent program, run on the same inputs.
 
+pub mod answer;
 pub mod case;
 pub mod class;
 pub mod product;

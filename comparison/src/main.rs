@@ -2,12 +2,14 @@
 //!
 //!     comparison calls [SEED [COUNT]]          every limit, then COUNT random cases
 //!     comparison case SEED NUMBER              one random case again
+//!     comparison answers [SEED [COUNT]]        the same for the program's answer to a text, as a call
 //!     comparison texts PROGRAM [SEED [COUNT]]  the same for the program that reads a shop as text
 //!     comparison faults                        the errors that a build with the feature `wrong` can commit, by call
 //!
 //! With FAULT=NAME in the environment, such a build commits that error. The last line says how many cases were equal.
 //! The status is 0 where all were, 1 where a case differed, and 2 where the comparison itself could not be had.
 
+use comparison::answer::Answer;
 use comparison::case::{shrunk, Case, Tally};
 use comparison::class::Class;
 use comparison::random::Random;
@@ -20,6 +22,7 @@ use std::process::ExitCode;
 
 const SEED: u64 = 1;
 const CALLS: u64 = 1_000_000;
+const ANSWERS: u64 = 20_000;
 const TEXTS: u64 = 2_000;
 
 fn main() -> ExitCode {
@@ -33,6 +36,7 @@ fn main() -> ExitCode {
     let result = commit_fault().and_then(|()| match words.first() {
         Some(&"calls") => compare_calls(number(1, SEED)?, number(2, CALLS)?),
         Some(&"case") => compare_one(number(1, SEED)?, number(2, 0)?),
+        Some(&"answers") => compare_answers(number(1, SEED)?, number(2, ANSWERS)?),
         Some(&"texts") => compare_texts(words.get(1)?, number(2, SEED)?, number(3, TEXTS)?),
         Some(&"faults") => list_faults(),
         _ => None,
@@ -41,7 +45,9 @@ fn main() -> ExitCode {
         Some(true) => ExitCode::SUCCESS,
         Some(false) => ExitCode::from(1),
         None => {
-            eprintln!("calls [SEED [COUNT]], case SEED NUMBER, texts PROGRAM [SEED [COUNT]] or faults");
+            eprintln!(
+                "calls [SEED [COUNT]], case SEED NUMBER, answers [SEED [COUNT]], texts PROGRAM [SEED [COUNT]] or faults"
+            );
             ExitCode::from(2)
         }
     }
@@ -159,6 +165,23 @@ fn compare_one(seed: u64, number: u64) -> Option<bool> {
     let same = random_case(seed, number, &mut tally);
     tally.print();
     Some(same)
+}
+
+fn compare_answers(seed: u64, count: u64) -> Option<bool> {
+    let mut tally = Tally::default();
+    let mut cases = 0;
+    let again = format!("comparison answers {seed} {count}");
+    let all = compare_limits::<Answer>(&mut tally, &mut cases)
+        && (0..count).all(|number| {
+            let case = Answer::random(&mut Random::of_case(seed, number));
+            equal(&case, seed, number, &again, &mut tally)
+        });
+    tally.print();
+    if !all {
+        return Some(false);
+    }
+    println!("{cases} answers at the limits and {count} of seed {seed} were equal");
+    Some(count == 0 || none_missing(&unseen::<Answer>(&tally)))
 }
 
 fn compare_texts(program: &str, seed: u64, count: u64) -> Option<bool> {

@@ -91,6 +91,7 @@ extern "C" {
         budget: u32,
     ) -> RunNumbers;
     fn mirvuttu_withdraw(messages: *mut Message, count: usize, station: u32) -> WithdrawalNumbers;
+    fn mirvuttu_answer(input: *const u8, count: usize, output: *mut u8, room: usize) -> usize;
 }
 
 fn numbers(shop: &Shop) -> Numbers {
@@ -169,4 +170,8 @@ pub fn run_fields(shop: &Shop, owners: &[u32], fields: Fields, log: &mut [u8], b
 
 pub fn withdraw(messages: &mut [Message], station: u32) -> WithdrawalNumbers {
     unsafe { mirvuttu_withdraw(messages.as_mut_ptr(), messages.len(), station) }
+}
+
+pub fn answer(input: &[u8], output: &mut [u8]) -> usize {
+    unsafe { mirvuttu_answer(input.as_ptr(), input.len(), output.as_mut_ptr(), output.len()) }
 }

@@ -53,7 +53,7 @@ pub fn compared(program: &str, input: &[u8]) -> io::Result<Seen> {
 }
 
 /// The refusal, or the first word of the last line.
-fn kind(output: &[u8]) -> String {
+pub fn kind(output: &[u8]) -> String {
     let text = String::from_utf8_lossy(output);
     let last = text.lines().last().unwrap_or_default();
     if last.starts_with("refused") {
@@ -202,7 +202,7 @@ pub fn shrunk(program: &str, input: &[u8]) -> io::Result<Vec<u8>> {
 }
 
 /// Without some lines, without some bytes, or with a smaller digit.
-fn shorter_texts(text: &[u8]) -> Vec<Vec<u8>> {
+pub fn shorter_texts(text: &[u8]) -> Vec<Vec<u8>> {
     let lines: Vec<&[u8]> = text.split_inclusive(|&byte| byte == b'\n').collect();
     let mut all: Vec<Vec<u8>> = shorter(&lines).into_iter().map(|lines| lines.concat()).collect();
     if text.len() <= 200 {

@@ -1,7 +1,7 @@
 // Exports: the public calls for C, Rust and scripts (include/mirvuttu.h says how they are called).
 // Each makes the call and gives its answer as numbers: a refusal's number, 0 for none, and the figures.
-// Uses refusals, trees, searches, counts, placements, classes, messages, phases, inputs, wire, runs, withdrawals,
-// and shop.
+// Uses refusals, trees, searches, counts, placements, classes, messages, phases, inputs, wire, runs, withdrawals, shop
+// and lines.
 use classes::Class;
 use counts::Count;
 use messages::Message;
@@ -17,6 +17,7 @@ ghost use Rattle.classes.specs.Answer.{figures as figuresOfClass};
 ghost use Rattle.placements.specs.Answer.{figures as numberOfPlacement};
 ghost use Rattle.withdrawals.specs.Answer.{figures as figuresOfWithdrawal};
 ghost use Rattle.wire.specs.Answer.{readingOf};
+ghost use Rattle.lines.specs.Promise.{AnswerPromise};
 ghost use Rattle.exports.specs.Numbers.{searchNumbers, countNumbers, classNumbers, withdrawalNumbers, runReading};
 ghost use Rattle.exports.specs.Promise.{
   SearchExported,
@@ -275,4 +276,12 @@ pub extern "C" fn mirvuttu_withdraw(messages: &mut [Message], station: u32) -> W
 {
     let withdrawal = shop::withdraw(messages, station);
     withdrawal_numbers(withdrawal)
+}
+
+// The program's answer to a text: how many bytes were written into the output.
+#[no_mangle]
+pub extern "C" fn mirvuttu_answer(input: &[u8], output: &mut [u8]) -> usize
+    ensures { λ r. ⌜ AnswerPromise (now (input .entry)) (now (output .entry)) r (now (output .exit)) ⌝ }
+{
+    lines::answer(input, output)
 }
