@@ -1,11 +1,11 @@
 -- Reading and writing numbers undo each other.
 use mathlib.Core.Path.{_≡_, refl, sym, ap, _∙_}
-use mathlib.Core.Bool.{Bool, true, false, _&&_}
+use mathlib.Core.Bool.{Bool, true, false}
 use mathlib.Core.List.{List, [], _∷_, _++_, append-nil}
 use Prim.Native.Nat.{ℕ, zero, suc, _+_, _*_, _-_, _/_, _%_, _≤_, _<_}
 use native.Mathlib.Omega.{arith}
 use lib.Dec.{ltb, eqb}
-use lib.ListN.{length, length-append}
+use lib.ListN.{length}
 use lib.Seq.{append-snoc}
 use borrow.Author.Tests.{ltb-true, ltb-false, le-leb, not-true, eqb-false}
 use Rattle.refusals.proofs.Verdicts.{both, in-range, within-true}

@@ -2,7 +2,7 @@
 use mathlib.Core.Path.{_≡_, refl, sym, ap, _∙_}
 use mathlib.Core.Bool.{Bool, true, false, _&&_}
 use mathlib.Core.List.{List, [], _∷_}
-use Prim.Native.Nat.{ℕ, zero, suc, _+_, _*_, _-_, _≤_, _<_}
+use Prim.Native.Nat.{ℕ, suc, _+_, _*_, _-_, _≤_, _<_}
 use native.Mathlib.Numerals.{add-one}
 use native.Mathlib.Omega.{arith}
 use lib.Dec.{leb}
@@ -10,8 +10,7 @@ use lib.ListN.{length, getD, drop}
 use lib.Seq.{drop-cons, drop-length}
 use borrow.Author.Tests.{le-leb, lt-leb}
 use Rattle.refusals.specs.Numbers.{within}
-use Rattle.refusals.proofs.Verdicts.{both, in-range, below-range, above-range}
-use Rattle.numbers.specs.declared.Number.{Number}
+use Rattle.refusals.proofs.Verdicts.{in-range, below-range, above-range, fails-behind}
 use Rattle.numbers.specs.declared.Number.the-variants.{Value, Bad}
 use Rattle.numbers.specs.Decimal.{isDigit, allDigits, valueFrom, valueOf, isNumber, numberIn}
 
@@ -60,11 +59,7 @@ module _ (bytes : List ℕ) (value i : ℕ) (r : Read bytes value i) where
     read-large g =
         let v : valueOf bytes ≡ valueFrom (10 * value + (b - 48)) (drop (suc i) bytes) = r .values ∙ ap (valueFrom value) rest in
         let big : leb (valueOf bytes) 4294967295 ≡ false = lt-leb (valueOf bytes) 4294967295 (omega (arith, v, value-grows (10 * value + (b - 48)) (drop (suc i) bytes))) in
-        bad bytes (last (allDigits bytes) (leb (valueOf bytes) 4294967295) big)
-      where
-        last : (a c : Bool) → c ≡ false → (within 1 10 (length bytes) && (a && c)) ≡ false
-        last true c e = simp (sized, e)
-        last false c e = simp sized
+        bad bytes (fails-behind (within 1 10 (length bytes)) (allDigits bytes && leb (valueOf bytes) 4294967295) (fails-behind (allDigits bytes) (leb (valueOf bytes) 4294967295) big))
 
     pub read-next : isDigit b ≡ true → 10 * value + (b - 48) ≤ 4294967295 → Read bytes (10 * value + (b - 48)) (i + 1)
     read-next e g =

@@ -1,6 +1,6 @@
 // Numbers: decimal numbers as the program's lines hold them (docs/RULES.md, section 12).
 // `put_number` writes one, `read_number` reads one; each undoes the other (proofs/Inverse.antt).
-// Uses refusals for its ranges and rows for writing into a buffer.
+// Its definitions use those of refusals for ranges and of rows for a buffer; its code uses nothing.
 ghost use mathlib.Core.Path.{_≡_};
 ghost use Prim.Native.Nat.{_+_, _*_, _-_, _≤_, _<_};
 ghost use lib.ListN.{length};

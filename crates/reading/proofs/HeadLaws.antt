@@ -2,12 +2,13 @@
 use mathlib.Core.Path.{_≡_, refl, sym, ap, _∙_, subst}
 use mathlib.Core.Bool.{Bool, true, false, _&&_}
 use mathlib.Core.List.{List, [], _∷_}
-use Prim.Native.Nat.{ℕ, suc, _+_, _-_, _≤_, _<_}
+use Prim.Native.Nat.{ℕ, _+_, _-_, _≤_, _<_}
 use native.Mathlib.Nat.{sub-zero}
 use native.Mathlib.Omega.{arith}
 use lib.Dec.{leb}
 use lib.ListN.{length, getD, take, drop, length-map}
 use borrow.Author.Tests.{le-leb, lt-leb}
+use Rattle.refusals.proofs.Verdicts.{fails, fails-behind}
 use Rattle.messages.specs.declared.Message.{Message}
 use Rattle.phases.specs.declared.Shop.{Shop}
 use Rattle.numbers.specs.Decimal.{valueOf}
@@ -17,16 +18,12 @@ use Rattle.reading.specs.declared.Messages.{Messages}
 use Rattle.reading.specs.declared.Messages.the-variants.{Count, Bad as NoMessages}
 use Rattle.reading.specs.declared.Given.{Given}
 use Rattle.reading.specs.declared.Given.the-variants.{Shop as ShopGiven, Bad as NotGiven}
-use Rattle.reading.specs.ShopText.{pieces, parts, isNumbers, numbersOf, holds, linesOf, messagesFollow, shopLines, isShop, shopIn, messageLines, shopOf, ownersOf, messagesOf}
+use Rattle.reading.specs.ShopText.{parts, isNumbers, numbersOf, holds, linesOf, messagesFollow, shopLines, isShop, shopIn, messageLines, shopOf, ownersOf, messagesOf}
 use Rattle.reading.specs.Work.{onto, part, from, Part, countOf, LineRead, shopLine, Headed, Columns, MessagesRead, givenBy, ShopRead}
 use Rattle.reading.proofs.Picked.{picked-good, picked-bad, differ}
 use Rattle.reading.proofs.PieceLaws.{from-inside, from-behind, pieces-some}
 
 -- ---- lines
-
-false-behind : (a : Bool) → (a && false) ≡ false
-false-behind true = refl
-false-behind false = refl
 
 other-shop : (l : List ℕ) (ls : List (List ℕ)) → holds 8 l ≡ false → shopLines (l ∷ ls) ≡ false
 other-shop l [] e = refl
@@ -95,14 +92,14 @@ module _ (text : List ℕ) (first : ℕ) (p : Part text 0 10 first) where
     pub owners-unended : length text ≤ second → shopLines (linesOf text) ≡ false
     owners-unended h =
         ap shopLines (both-lines ∙ ap (λ (ls : List (List ℕ)). take first text ∷ owner-bytes ∷ ls) (from-behind 10 text (second + 1) (omega arith)))
-        ∙ ap (λ (t : Bool). holds 8 (take first text) && t) (false-behind (isNumbers owner-bytes))
-        ∙ false-behind (holds 8 (take first text))
+        ∙ fails-behind (holds 8 (take first text)) (isNumbers owner-bytes && false) (fails-behind (isNumbers owner-bytes) false refl)
 
     module _ (owners owners' : List ℕ) (count : ℕ) (r : LineRead owner-bytes owners count owners') where
       pub owners-other : count ≡ 0 → shopLines (linesOf text) ≡ false
       owners-other e =
           let no : isNumbers owner-bytes ≡ false = none-counted owner-bytes (sym (r .counted) ∙ e) in
-          ap shopLines both-lines ∙ ap (λ (t : Bool). holds 8 (take first text) && (t && messagesFollow (from 10 text (second + 1)))) no ∙ false-behind (holds 8 (take first text))
+          ap shopLines both-lines
+          ∙ fails-behind (holds 8 (take first text)) (isNumbers owner-bytes && messagesFollow (from 10 text (second + 1))) (sym (fails (isNumbers owner-bytes) (messagesFollow (from 10 text (second + 1))) no))
 
       pub headed : second < length text → (S : Shop) → ShopFound S ≡ shopLine (take first text) → (count ≡ 0 → ⊥) → Headed text owners S count (second + 1) owners'
       headed h S is any =
@@ -133,7 +130,7 @@ module _ (text owners stations arrivals relatives lengths owners' stations' arri
   text-long h = declined (simp (lt-leb (length text) 65536 h))
 
   pub text-other : shopLines (linesOf text) ≡ false → ReadAs NotGiven
-  text-other e = declined (ap (λ (t : Bool). leb (length text) 65536 && t) e ∙ false-behind (leb (length text) 65536))
+  text-other e = declined (fails-behind (leb (length text) 65536) (shopLines (linesOf text)) e)
 
   module _ (S : Shop) (count next : ℕ) (h : Headed text owners S count next owners') (n : Messages)
       (r : MessagesRead (from 10 text next) stations arrivals relatives lengths n stations' arrivals' relatives' lengths') where

@@ -1,23 +1,21 @@
 -- A line, number by number.
-use mathlib.Core.Path.{_≡_, refl, sym, ap, _∙_, subst}
+use mathlib.Core.Path.{_≡_, refl, sym, ap, _∙_}
 use mathlib.Core.Bool.{Bool, true, false, _&&_}
 use mathlib.Core.List.{List, [], _∷_, _++_, map}
 use Prim.Native.Nat.{ℕ, zero, suc, _+_, _≤_, _<_}
 use native.Mathlib.Numerals.{add-one}
 use native.Mathlib.Omega.{arith}
 use lib.Dec.{eqb}
-use lib.ListN.{length, getD, set, take, drop, length-set, length-map, length-drop}
-use lib.Seq.{take-all, length-take-le, take-append-seam}
+use lib.ListN.{length, set, take, drop, length-set, length-map, length-drop}
+use lib.Seq.{take-all, length-take-le}
 use borrow.Author.Tests.{eq-eqb, ne-eqb, eqb-true}
-use Rattle.refusals.proofs.Verdicts.{both}
+use Rattle.refusals.proofs.Verdicts.{both, fails-behind}
 use Rattle.numbers.specs.declared.Number.{Number}
 use Rattle.numbers.specs.declared.Number.the-variants.{Value, Bad}
 use Rattle.numbers.specs.Decimal.{isNumber, valueOf, numberIn}
-use Rattle.reading.specs.declared.ShopLine.the-variants.{Shop as ShopFound, Bad as NoShop}
-use Rattle.reading.specs.declared.MessageLine.the-variants.{Message as MessageFound, Bad as NoMessage}
-use Rattle.reading.specs.ShopText.{parts, allNumbers, isNumbers, numbersOf, holds, shopIn, messageIn}
-use Rattle.reading.specs.Work.{onto, part, from, Part, countOf, LineRead, shopLine, messageLine}
-use Rattle.reading.proofs.Picked.{picked-good, picked-bad, differ}
+use Rattle.reading.specs.ShopText.{parts, allNumbers, isNumbers, numbersOf, holds}
+use Rattle.reading.specs.Work.{onto, part, from, Part, countOf, LineRead}
+use Rattle.reading.proofs.Picked.{pick, picked-good, picked-bad, differ}
 use Rattle.reading.proofs.PieceLaws.{from-inside, from-behind}
 
 -- ---- numbers laid over a list
@@ -93,11 +91,7 @@ numbers-stop : (ps : List (List ℕ)) (k : ℕ) (p : List ℕ) (rest : List (Lis
 numbers-stop [] zero p rest e f = absurd (omega (arith, ap length e))
 numbers-stop [] (suc k) p rest e f = absurd (omega (arith, ap length e))
 numbers-stop (q ∷ ps) zero p rest e f = ap allNumbers e ∙ simp f
-numbers-stop (q ∷ ps) (suc k) p rest e f = last (isNumber q) (numbers-stop ps k p rest e f)
-  where
-    last : (t : Bool) → allNumbers ps ≡ false → (t && allNumbers ps) ≡ false
-    last true g = g
-    last false g = refl
+numbers-stop (q ∷ ps) (suc k) p rest e f = fails-behind (isNumber q) (allNumbers ps) (numbers-stop ps k p rest e f)
 
 abbrev some : Number → ℕ
 some (Value x) = 1
@@ -179,10 +173,10 @@ module _ (n : ℕ) (line fields : List ℕ) (count : ℕ) (fields' : List ℕ) (
   holds-by true e f = let g : countOf line ≡ length (parts line) = rw (e, countOf) refl in simp (e, eq-eqb (length (parts line)) n (sym g ∙ f))
   holds-by false e f = let g : countOf line ≡ 0 = rw (e, countOf) refl in absurd (omega arith)
 
-  pub line-holds : count ≡ n → holds n line ≡ true
+  line-holds : count ≡ n → holds n line ≡ true
   line-holds e = holds-by (isNumbers line) refl (sym (r .counted) ∙ e)
 
-  pub line-fields : count ≡ n → length fields ≡ n → fields' ≡ numbersOf line
+  line-fields : count ≡ n → length fields ≡ n → fields' ≡ numbersOf line
   line-fields e f =
       let b = both (isNumbers line) (eqb (length (parts line)) n) (line-holds e) in
       r .laid (b .0) ∙ onto-all fields (numbersOf line) (f ∙ sym (length-map (parts line) valueOf ∙ eqb-true (length (parts line)) n (b .1)))
@@ -191,25 +185,13 @@ module _ (n : ℕ) (line fields : List ℕ) (count : ℕ) (fields' : List ℕ) (
   misses-by true e f = let g : countOf line ≡ length (parts line) = rw (e, countOf) refl in simp (e, ne-eqb (length (parts line)) n (λ h. f (g ∙ h)))
   misses-by false e f = simp e
 
-  pub line-misses : (count ≡ n → ⊥) → holds n line ≡ false
+  line-misses : (count ≡ n → ⊥) → holds n line ≡ false
   line-misses f = misses-by (isNumbers line) refl (λ e. f (r .counted ∙ e))
 
--- ---- what a line gives
+  -- what such a line gives, made of its numbers, and what another one does
+  module _ {A : Type 0} (made : List ℕ → A) (other : A) where
+    pub line-gives : count ≡ n → length fields ≡ n → made fields' ≡ pick (holds n line) (made (numbersOf line)) other
+    line-gives e l = ap made (line-fields e l) ∙ sym (ap (λ (t : Bool). pick t (made (numbersOf line)) other) (line-holds e))
 
-pub shop-misses : (line fields : List ℕ) (count : ℕ) (fields' : List ℕ) → LineRead line fields count fields' → (count ≡ 8 → ⊥) → NoShop ≡ shopLine line
-shop-misses line fields count fields' r f = let no = line-misses 8 line fields count fields' (omega arith) r f in rw (no, shopLine) refl
-
-pub shop-holds : (line fields : List ℕ) (count : ℕ) (fields' : List ℕ) → LineRead line fields count fields' → count ≡ 8 → length fields ≡ 8 → ShopFound (shopIn fields') ≡ shopLine line
-shop-holds line fields count fields' r e l =
-    let yes = line-holds 8 line fields count fields' (omega arith) r e in
-    let same = line-fields 8 line fields count fields' (omega arith) r e l in
-    ap (λ (ns : List ℕ). ShopFound (shopIn ns)) same ∙ sym (rw (yes, shopLine) refl)
-
-pub message-misses : (line fields : List ℕ) (count : ℕ) (fields' : List ℕ) → LineRead line fields count fields' → (count ≡ 4 → ⊥) → NoMessage ≡ messageLine line
-message-misses line fields count fields' r f = let no = line-misses 4 line fields count fields' (omega arith) r f in rw (no, messageLine) refl
-
-pub message-holds : (line fields : List ℕ) (count : ℕ) (fields' : List ℕ) → LineRead line fields count fields' → count ≡ 4 → length fields ≡ 4 → MessageFound (messageIn fields') ≡ messageLine line
-message-holds line fields count fields' r e l =
-    let yes = line-holds 4 line fields count fields' (omega arith) r e in
-    let same = line-fields 4 line fields count fields' (omega arith) r e l in
-    ap (λ (ns : List ℕ). MessageFound (messageIn ns)) same ∙ sym (rw (yes, messageLine) refl)
+    pub line-gives-other : (count ≡ n → ⊥) → other ≡ pick (holds n line) (made (numbersOf line)) other
+    line-gives-other f = sym (ap (λ (t : Bool). pick t (made (numbersOf line)) other) (line-misses f))

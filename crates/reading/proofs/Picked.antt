@@ -1,5 +1,5 @@
 -- One of two answers, picked by a test: the answer tells the test.
-use mathlib.Core.Path.{_≡_, refl, sym, ap, _∙_}
+use mathlib.Core.Path.{_≡_, refl, ap}
 use mathlib.Core.Bool.{Bool, true, false}
 use Prim.Native.Nat.{ℕ}
 use native.Mathlib.Omega.{arith}

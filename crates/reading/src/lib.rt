@@ -8,7 +8,8 @@ use phases::Shop;
 ghost use mathlib.Core.Path.{_≡_};
 ghost use Prim.Native.Nat.{_≤_};
 ghost use lib.ListN.{length, set};
-ghost use Rattle.reading.specs.Work.{from, Part, LineRead, shopLine, messageLine, MessagePut, MessagesRead, HeadRead, ShopRead};
+ghost use Rattle.reading.specs.Work.{from, Part, LineRead, shopLine, messageLine};
+ghost use Rattle.reading.specs.Work.{MessagePut, MessagesRead, HeadRead, ShopRead};
 
 const SPACE: u8 = 32;
 

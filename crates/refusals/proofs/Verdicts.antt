@@ -54,6 +54,10 @@ passed b r v w e f = rw e f
 pub fails : (a b : Bool) → a ≡ false → false ≡ (a && b)
 fails a b e = rw e refl
 
+pub fails-behind : (a b : Bool) → b ≡ false → (a && b) ≡ false
+fails-behind true b e = e
+fails-behind false b e = refl
+
 pub on : (a b t : Bool) → a ≡ true → t ≡ b → t ≡ (a && b)
 on a b t e f = rw e f
 

@@ -1,6 +1,6 @@
 -- The head, then the messages.
 use borrow.Author.Needs.{needs}
-use mathlib.Core.Path.{sym, _∙_, subst}
+use mathlib.Core.Path.{subst}
 use native.Mathlib.Omega.{arith}
 use Rattle.reading.specs.declared.Head.{Head}
 use Rattle.reading.specs.Work.{HeadRead}

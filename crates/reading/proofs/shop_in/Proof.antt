@@ -1,15 +1,26 @@
 -- A line of 8 numbers, or another one.
 use borrow.Author.Needs.{needs}
 use mathlib.Core.Path.{refl}
-use Rattle.reading.proofs.LineLaws.{shop-holds, shop-misses}
+use mathlib.Core.List.{List}
+use Prim.Native.Nat.{ℕ}
+use native.Mathlib.Omega.{arith}
+use Rattle.reading.specs.declared.ShopLine.the-variants.{Shop as ShopFound, Bad as NoShop}
+use Rattle.reading.specs.ShopText.{shopIn}
+use Rattle.reading.proofs.LineLaws.{line-gives, line-gives-other}
 use Rattle.reading.proofs.shop_in.Statement.{statement}
 use Rattle.reading.proofs.shop_in.Tie as tie
 
 returns : tie.Need-returns
-returns c = let read = c .before .before .read-line in shop-misses (c .before .before .before .before .before .args .line .now) _ (read .result) (read .last .1 .0) (read .ensures) (c .if1 .taken)
+returns c =
+    let read = c .before .before .read-line in
+    line-gives-other 8 (c .before .before .before .before .before .args .line .now) _ (read .result) (read .last .1 .0) (omega arith) (read .ensures)
+    (λ (ns : List ℕ). ShopFound (shopIn ns)) NoShop (c .if1 .taken)
 
 returns-2 : tie.Need-returns-2
-returns-2 c = let read = c .before .before .read-line in shop-holds (c .before .before .before .before .before .args .line .now) _ (read .result) (read .last .1 .0) (read .ensures) (c .if1 .left) refl
+returns-2 c =
+    let read = c .before .before .read-line in
+    line-gives 8 (c .before .before .before .before .before .args .line .now) _ (read .result) (read .last .1 .0) (omega arith) (read .ensures)
+    (λ (ns : List ℕ). ShopFound (shopIn ns)) NoShop (c .if1 .left) refl
 
 pub shop-in-spec : {M : Type 1} → statement M
 shop-in-spec =
