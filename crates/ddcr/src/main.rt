@@ -1,4 +1,4 @@
-// The program (docs/RULES.md, section 12): standard input to standard output. All that it decides is in `lines::answer`.
+// The program (docs/RULES.md, section 12): standard input to standard output. What it decides is in `lines::answer`.
 // Uses lines.
 ghost use mathlib.Core.Path.{_≡_};
 ghost use lib.ListN.{length};

@@ -26,7 +26,7 @@ use Rattle.printing.specs.Report.{refusedText, reportBy}
 use Rattle.printing.specs.Work.{Put, Reported}
 use Rattle.reading.specs.declared.Given.{Given}
 use Rattle.reading.specs.declared.Given.the-variants.{Shop as ShopGiven, Bad as NotGiven}
-use Rattle.reading.specs.ShopText.{linesOf, isShop, messageLines, shopOf, ownersOf, messagesOf}
+use Rattle.reading.specs.ShopText.{linesOf, isShop, shopOf, ownersOf, messagesOf}
 use Rattle.reading.specs.Work.{onto, givenBy, ShopRead}
 use Rattle.reading.proofs.Picked.{picked-good, picked-bad}
 use Rattle.lines.specs.Program.{budget, roomOf, programRun, programText}

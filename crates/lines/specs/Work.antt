@@ -3,8 +3,6 @@
 --   columnsMake ..      the messages that the columns hold, none sent
 --   columnsText ..      the text of the run that the columns ask for
 --   Printed d b n d'    the text b stands at the front of d, nothing else changed; n is its length
-use mathlib.Core.Path.{_≡_}
-use mathlib.Core.Bool.{true}
 use mathlib.Core.List.{List}
 use Prim.Native.Nat.{ℕ, _≤_}
 use lib.ListN.{length, replicate}

@@ -1,6 +1,6 @@
 // Lines: the program as a function from the bytes of its input to the bytes of its output (docs/RULES.md, section 12).
 // `answer` reads the shop's text, runs the shop and writes its log and closing figures, or the line of a refusal.
-// Uses reading, wire and printing.
+// Uses phases and refusals, and reading, wire and printing, which do the work.
 use phases::Shop;
 use reading::Given;
 use refusals::Refusal;

@@ -15,7 +15,8 @@ ghost use lib.ListN.{length};
 ghost use Rattle.refusals.specs.Numbers.{numberOf};
 ghost use Rattle.wire.specs.Answer.{ended, readingOf};
 ghost use Rattle.numbers.specs.Decimal.{decimal};
-ghost use Rattle.printing.specs.Report.{column, phaseLetter, stateLetter, messageText, rowText, endText, figuresText, refusedText};
+ghost use Rattle.printing.specs.Report.{column, phaseLetter, stateLetter, messageText, rowText};
+ghost use Rattle.printing.specs.Report.{endText, figuresText, refusedText};
 ghost use Rattle.printing.specs.Work.{Put, RowsPut, TablePut, RunPut, ReportReady, Reported};
 
 mod back;
@@ -76,7 +77,8 @@ fn state_letter(state: Channel) -> u8
 // A message's number or `-`, and a space.
 fn put_message(output: &mut [u8], at: usize, message: u16) -> usize
     requires { ⌜ at + 11 ≤ length (now output) ⌝ }
-    ensures { λ r. ⌜ Put (now (output .entry)) at (column (messageText message)) r (now (output .exit)) × (r ≤ at + 11) ⌝ }
+    ensures { λ r. ⌜ Put (now (output .entry)) at (column (messageText message)) r (now (output .exit))
+        × (r ≤ at + 11) ⌝ }
 {
     if message == rows::NO_MESSAGE {
         return put_letter(output, at, b'-');

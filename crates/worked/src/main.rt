@@ -1,5 +1,5 @@
-// Worked: the calls on trees by themselves (README.md). It searches the tree with two branches and four leaves, leaves 0
-// and 1 active, and prints the log; then some worst counts; then two trees that are refused.
+// Worked: the calls on trees by themselves. It searches the tree with two branches and four leaves, leaves 0 and 1
+// active, and prints the log; then some worst counts; then two trees that are refused.
 // What it prints is held to docs/RULES.md by the file stdout, which was written from the rules and not from a run.
 // Uses refusals, searches, counts and printing.
 use counts::Count;

@@ -1,7 +1,6 @@
 -- One word or the other.
 use borrow.Author.Needs.{needs}
 use mathlib.Core.Path.{ap, sym}
-use mathlib.Core.Bool.{Bool}
 use native.Mathlib.Omega.{arith}
 use Rattle.printing.specs.Report.{endText}
 use Rattle.printing.proofs.PutLaws.{put-as}
