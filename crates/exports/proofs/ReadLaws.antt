@@ -9,9 +9,9 @@ use Rattle.wire.specs.Answer.{readingOf}
 use Rattle.withdrawals.specs.declared.Withdrawal.{Withdrawal}
 use Rattle.withdrawals.specs.Answer.{figures}
 use Rattle.shop.specs.Promise.{WithdrawalPromise, ShopPromise}
-use Rattle.exports.specs.declared.RunNumbers.{RunNumbers}
-use Rattle.exports.specs.declared.WithdrawalNumbers.{WithdrawalNumbers}
-use Rattle.exports.specs.Numbers.{withdrawalNumbers, runReading}
+use Rattle.figures.specs.declared.RunNumbers.{RunNumbers}
+use Rattle.figures.specs.declared.WithdrawalNumbers.{WithdrawalNumbers}
+use Rattle.figures.specs.Numbers.{withdrawalNumbers, runReading}
 use Rattle.exports.specs.Promise.{WithdrawalExported, ShopExported}
 
 pub withdrawal-read : (station : ℕ) (ms : List Message) (w : Withdrawal) (r : WithdrawalNumbers) (ms' : List Message) → withdrawalNumbers r ≡ figures w → WithdrawalPromise station ms w ms' → WithdrawalExported station ms r ms'

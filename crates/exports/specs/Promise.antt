@@ -7,7 +7,7 @@
 --   RunExported ..          the numbers, the slots of sending and the whole log at exit are the definition's
 --   ShopExported ..         the numbers, the whole list of records and the whole log at exit are the definition's
 --   WithdrawalExported ..   the numbers and the whole list at exit are the definition's
---   one-search .. one-withdrawal    lemmas: two results that a promise allows for one input are equal; of a placement, the number
+--   one-search .. one-withdrawal    lemmas: two results that a promise allows for one input are equal; of a placement, the number, and the list after a refusal
 use mathlib.Core.Path.{_≡_, sym, ap, _∙_}
 use mathlib.Core.Bool.{true}
 use mathlib.Core.List.{List}
@@ -28,12 +28,12 @@ use Rattle.inputs.specs.Inputs.{sameLengths, runVerdict}
 use Rattle.wire.specs.Answer.{Reading, readingBy, marksBy, logBy, ranOf}
 use Rattle.runs.specs.Slots.{messagesBy}
 use Rattle.withdrawals.specs.Answer.{figuresOf, listOf}
-use Rattle.exports.specs.declared.SearchNumbers.{SearchNumbers}
-use Rattle.exports.specs.declared.CountNumbers.{CountNumbers}
-use Rattle.exports.specs.declared.ClassNumbers.{ClassNumbers}
-use Rattle.exports.specs.declared.RunNumbers.{RunNumbers}
-use Rattle.exports.specs.declared.WithdrawalNumbers.{WithdrawalNumbers}
-use Rattle.exports.specs.Numbers.{searchNumbers, countNumbers, classNumbers, withdrawalNumbers, runReading}
+use Rattle.figures.specs.declared.SearchNumbers.{SearchNumbers}
+use Rattle.figures.specs.declared.CountNumbers.{CountNumbers}
+use Rattle.figures.specs.declared.ClassNumbers.{ClassNumbers}
+use Rattle.figures.specs.declared.RunNumbers.{RunNumbers}
+use Rattle.figures.specs.declared.WithdrawalNumbers.{WithdrawalNumbers}
+use Rattle.figures.specs.Numbers.{searchNumbers, countNumbers, classNumbers, withdrawalNumbers, runReading}
 
 pub record SearchExported (m t : ℕ) (leaves log : List ℕ) (r : SearchNumbers) (log' : List ℕ) : Type 0 where
   pub figured : searchNumbers r ≡ searchFigures m t leaves (length log)
@@ -93,8 +93,9 @@ one-search m t leaves log a b log₁ log₂ p q = (search-tells a b (p .figured 
 pub one-count : (m t k : ℕ) (a b : CountNumbers) → CountExported m t k a → CountExported m t k b → a ≡ b
 one-count m t k a b p q = count-tells a b (p .figured ∙ sym (q .figured))
 
-pub one-placement : (m t k : ℕ) (before : List ℕ) (a b : ℕ) (xs ys : List ℕ) → PlacementExported m t k before a xs → PlacementExported m t k before b ys → a ≡ b
-one-placement m t k before a b xs ys p q = p .numbered ∙ sym (q .numbered)
+pub one-placement : (m t k : ℕ) (before : List ℕ) (a b : ℕ) (xs ys : List ℕ) → PlacementExported m t k before a xs → PlacementExported m t k before b ys
+    → (a ≡ b) × ((placementVerdict m t k (length before) ≡ Granted → ⊥) → xs ≡ ys)
+one-placement m t k before a b xs ys p q = (p .numbered ∙ sym (q .numbered), λ refused. p .kept refused ∙ sym (q .kept refused))
 
 pub one-class : (deadline offset reference width : ℕ) (a b : ClassNumbers) → ClassExported deadline offset reference width a → ClassExported deadline offset reference width b → a ≡ b
 one-class deadline offset reference width a b p q = class-tells a b (p .figured ∙ sym (q .figured))

@@ -19,8 +19,9 @@ use Rattle.rows.proofs.LogLaws.{over-nil, over-over}
 use Rattle.wire.specs.declared.Figures.{Figures}
 use Rattle.wire.specs.declared.Outcome.the-variants.{Done, Spent, Refused}
 use Rattle.numbers.specs.Decimal.{decimal}
+use Rattle.readback.specs.Back.{RowBack}
 use Rattle.printing.specs.Report.{column, messageText, rowText, rowsText, refusedText}
-use Rattle.printing.specs.Work.{Put, RowBack, Listed, RowsPut, RunPut, Reported}
+use Rattle.printing.specs.Work.{Put, Listed, RowsPut, RunPut, Reported}
 
 -- nothing
 pub put-nothing : (d : List ℕ) (at : ℕ) → Put d at [] at d

@@ -1,9 +1,6 @@
 -- What the functions of the report ask of each other. No promise to a caller speaks of these.
 --
 --   Put d at b n d'     the bytes b stand in d from `at` on and nothing else changed; n is the place behind them
---   PhaseBack byte p    p is the phase whose byte this is, if it is one's
---   StateBack byte s    s is the channel state whose byte this is, if it is one's
---   RowBack bytes r     r is the row whose bytes these are, if they are one's
 --   Listed log k rs     the log begins with the k rows rs
 --   RowsPut ..          a line for each of the log's first rows was written
 --   TablePut ..         the table of a log was written
@@ -16,10 +13,8 @@ use mathlib.Core.List.{List, _++_}
 use Prim.Native.Nat.{ℕ, _+_, _*_, _≤_}
 use lib.ListN.{length, take}
 use Rattle.refusals.specs.Numbers.{numberOf}
-use Rattle.rows.specs.declared.Phase.{Phase}
-use Rattle.rows.specs.declared.Channel.{Channel}
 use Rattle.rows.specs.declared.Row.{Row}
-use Rattle.rows.specs.Log.{phaseNumber, stateNumber, rowBytes, logBytes, over}
+use Rattle.rows.specs.Log.{logBytes, over}
 use Rattle.wire.specs.declared.Figures.{Figures}
 use Rattle.wire.specs.declared.Outcome.{Outcome}
 use Rattle.wire.specs.declared.Outcome.the-variants.{Done, Spent, Refused}
@@ -30,18 +25,6 @@ use Rattle.printing.specs.Report.{header, rowsText, closingText, refused
 pub record Put (d : List ℕ) (at : ℕ) (b : List ℕ) (n : ℕ) (d' : List ℕ) : Type 0 where
   pub next : n ≡ at + length b
   pub wrote : d' ≡ over d at b
-
--- a phase
-abbrev pub PhaseBack : ℕ → Phase → Type 0
-PhaseBack byte p = (q : Phase) → byte ≡ phaseNumber q → p ≡ q
-
--- a channel state
-abbrev pub StateBack : ℕ → Channel → Type 0
-StateBack byte s = (q : Channel) → byte ≡ stateNumber q → s ≡ q
-
--- a row
-abbrev pub RowBack : List ℕ → Row → Type 0
-RowBack bytes r = (q : Row) → bytes ≡ rowBytes q → r ≡ q
 
 -- rows at the front of a log
 pub record Listed (log : List ℕ) (k : ℕ) (rs : List Row) : Type 0 where

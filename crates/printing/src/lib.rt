@@ -1,6 +1,6 @@
 // Printing: what the program writes of a run (docs/RULES.md, section 12): a line for each row of the log and a closing
 // line, or the one line of a refusal. `put_report` writes it all.
-// Uses refusals, rows, wire for how a run ends, and numbers.
+// Uses refusals, rows, wire for how a run ends, numbers, and readback for the rows of a log.
 use refusals::Refusal;
 use rows::Channel;
 use rows::Phase;
@@ -18,8 +18,6 @@ ghost use Rattle.numbers.specs.Decimal.{decimal};
 ghost use Rattle.printing.specs.Report.{column, phaseLetter, stateLetter, messageText, rowText};
 ghost use Rattle.printing.specs.Report.{endText, figuresText, refusedText};
 ghost use Rattle.printing.specs.Work.{Put, RowsPut, TablePut, RunPut, ReportReady, Reported};
-
-mod back;
 
 const SPACE: u8 = 32;
 
@@ -110,7 +108,7 @@ fn put_rows(output: &mut [u8], at: usize, log: &[u8], rows: usize) -> usize
     let mut next = at;
     let mut row: usize = 0;
     while row < rows {
-        next = put_row(&mut *output, next, back::row_at(log, row));
+        next = put_row(&mut *output, next, readback::row_at(log, row));
         row += 1;
     }
     next

@@ -48,16 +48,16 @@ use Rattle.shop.proofs.withdraw as cut
 use Rattle.shop.proofs.withdraw.Symbol as cut-def
 use Rattle.shop.proofs.withdraw.Symbol.{name as #shop·withdraw}
 use Rattle.shop.proofs.withdraw.Met as cut-thm
-use Rattle.exports.specs.declared.WithdrawalNumbers.{WithdrawalNumbers}
-use Rattle.exports.specs.Numbers.{withdrawalNumbers}
+use Rattle.figures.specs.declared.WithdrawalNumbers.{WithdrawalNumbers}
+use Rattle.figures.specs.Numbers.{withdrawalNumbers}
 use Rattle.exports.specs.Promise.{WithdrawalExported}
 use Rattle.exports.proofs.ReadLaws.{withdrawal-read}
-use Rattle.exports.proofs.WithdrawalNumbers as Nu
-use Rattle.exports.proofs.WithdrawalNumbers.Laws as Nu′
-use Rattle.exports.proofs.withdrawal_numbers as num
-use Rattle.exports.proofs.withdrawal_numbers.Symbol as num-def
-use Rattle.exports.proofs.withdrawal_numbers.Symbol.{name as #exports·withdrawal-numbers}
-use Rattle.exports.proofs.withdrawal_numbers.Met as num-thm
+use Rattle.figures.proofs.WithdrawalNumbers as Nu
+use Rattle.figures.proofs.WithdrawalNumbers.Laws as Nu′
+use Rattle.figures.proofs.withdrawal_numbers as num
+use Rattle.figures.proofs.withdrawal_numbers.Symbol as num-def
+use Rattle.figures.proofs.withdrawal_numbers.Symbol.{name as #figures·withdrawal-numbers}
+use Rattle.figures.proofs.withdrawal_numbers.Met as num-thm
 use Rattle.exports.proofs.mirvuttu_withdraw.Key.{name as #exports·mirvuttu-withdraw}
 use Rattle.exports.proofs.mirvuttu_withdraw as f
 use Rattle.exports.proofs.mirvuttu_withdraw.Statement as stated
@@ -121,7 +121,7 @@ module _ {M : Type 1} (𝓤 : URA M) (H : Heap 𝓤) (A : Atoms 𝓤) (W : Given
       nothing ! $ owned ! u32 (Is u32) (uint-makes 𝓤 H A W w32) st _ (refl, st-fits) $ fjoin ! $ move ! (1 ∷ 0 ∷ []) $ fjoin ! $ frame ! $
       owned ! Nu.the-row (Is Nu.the-row) ((LL.makes Nu.the-type Nu′.the-plain) 𝓤 H A) r _ is $ done !
 
-  module _ (C : Calls 𝓤 H) (Λ : Loops 𝓤 H) (fm : FmC 𝓤 H (W .laws) C) (known-cut : Triple 𝓤 (C #shop·withdraw) (Cut 𝓤 H A mem run)) (known-num : Triple 𝓤 (C #exports·withdrawal-numbers) (Num 𝓤 H A mem run)) where
+  module _ (C : Calls 𝓤 H) (Λ : Loops 𝓤 H) (fm : FmC 𝓤 H (W .laws) C) (known-cut : Triple 𝓤 (C #shop·withdraw) (Cut 𝓤 H A mem run)) (known-num : Triple 𝓤 (C #figures·withdrawal-numbers) (Num 𝓤 H A mem run)) where
     walk : ent 𝓤 (onEntry 𝓤 H A f.signature (κ, tt) (q, tt) x at) (WpFn 𝓤 H C Λ code.function (s ∷ vint w32 st ∷ []) Post)
     walk =
         qed W ((‵ (flft κ q) ⊛ ‵ ftrue) ∷ ‵ (owns (MutSlice (named 0) κ T.the-row ∷ u32 ∷ []) x at) ∷ []) ∵ enter ! C Λ code.function (s ∷ vint w32 st ∷ []) _ $
@@ -153,7 +153,7 @@ module _ {M : Type 1} (𝓤 : URA M) (H : Heap 𝓤) (A : Atoms 𝓤) (W : Given
         keep ! (0 ∷ 1 ∷ []) $ by ! (exits r _ (zs .0) (withdrawal-read st ys w r (zs .0) e₂ e₁) l is₂)))))))))))))))))
 
 module _ {M : Type 1} (𝓤 : URA M) (H : Heap 𝓤) (A : Atoms 𝓤) (W : Given 𝓤 H A) (mem : Memory → SProp 𝓤) (run : Routine → Fun 𝓤) (𝓣 : Tables 𝓤 H)
-    (known-cut : Triple 𝓤 (𝓣 .C #shop·withdraw) (Cut 𝓤 H A mem run)) (known-num : Triple 𝓤 (𝓣 .C #exports·withdrawal-numbers) (Num 𝓤 H A mem run)) where
+    (known-cut : Triple 𝓤 (𝓣 .C #shop·withdraw) (Cut 𝓤 H A mem run)) (known-num : Triple 𝓤 (𝓣 .C #figures·withdrawal-numbers) (Num 𝓤 H A mem run)) where
   withdraw-walks : Walks 𝓤 H A f.ended stayed (WpFn 𝓤 H (𝓣 .C) (𝓣 .Λ) code.function) (f.clauses 𝓤 H A mem run)
   withdraw-walks = walked 𝓤 H A f.ended stayed (f.clauses 𝓤 H A mem run) (WpFn 𝓤 H (𝓣 .C) (𝓣 .Λ) code.function) (λ κs. (slice-vals, (uint-vals w32, tt))) (λ κs. (mut-slice-tells (named 0) (κs .0) T.the-row, (uint-tells w32, tt)))
       (λ κs qs bounds a g are. via 𝓤 _ (fst∗ 𝓤 _ (emp 𝓤))
@@ -169,4 +169,4 @@ mirvuttu-withdraw-spec 𝓤 H 𝓜 𝓖 𝓡 =
     (tables 𝓤 H 𝓜 𝓡 code.env .C) (tables 𝓤 H 𝓜 𝓡 code.env .Λ) #exports·mirvuttu-withdraw code.function (code.unfolded 𝓤 H 𝓜 𝓡)
     (withdraw-meets 𝓤 H (𝓖 .A) (givenOf 𝓤 H 𝓜 𝓖) (𝓜 .mem) (𝓡 .run) (tablesOf 𝓤 H 𝓜 (tables 𝓤 H 𝓜 𝓡 code.env))
     (cited 𝓤 H (Cut 𝓤 H (𝓖 .A) (𝓜 .mem) (𝓡 .run)) 𝓜 𝓡 code.env #shop·withdraw cut-def.routine code.calls-shop·withdraw (cut-thm.met 𝓤 H 𝓜 𝓖 𝓡))
-    (cited 𝓤 H (Num 𝓤 H (𝓖 .A) (𝓜 .mem) (𝓡 .run)) 𝓜 𝓡 code.env #exports·withdrawal-numbers num-def.routine code.calls-exports·withdrawal-numbers (num-thm.met 𝓤 H 𝓜 𝓖 𝓡)))
+    (cited 𝓤 H (Num 𝓤 H (𝓖 .A) (𝓜 .mem) (𝓡 .run)) 𝓜 𝓡 code.env #figures·withdrawal-numbers num-def.routine code.calls-figures·withdrawal-numbers (num-thm.met 𝓤 H 𝓜 𝓖 𝓡)))

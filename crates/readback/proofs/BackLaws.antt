@@ -11,7 +11,7 @@ use Rattle.rows.specs.declared.Channel.{Channel}
 use Rattle.rows.specs.declared.Channel.the-variants.{Silence, Busy, Collision}
 use Rattle.rows.specs.declared.Row.{Row}
 use Rattle.rows.specs.Log.{rowBytes}
-use Rattle.printing.specs.Work.{PhaseBack, StateBack}
+use Rattle.readback.specs.Back.{PhaseBack, StateBack}
 
 -- ---- one byte
 

@@ -3,8 +3,8 @@ use mathlib.Core.Path.{refl, ap}
 use Prim.Native.Nat.{ℕ}
 use Rattle.wire.specs.Answer.{denied}
 use borrow.Author.Needs.{needs}
-use Rattle.exports.proofs.run_numbers.Statement.{statement}
-use Rattle.exports.proofs.run_numbers.Tie as tie
+use Rattle.figures.proofs.run_numbers.Statement.{statement}
+use Rattle.figures.proofs.run_numbers.Tie as tie
 
 pub run-numbers-spec : {M : Type 1} → statement M
 run-numbers-spec =

@@ -1,7 +1,7 @@
 -- Each byte in its turn.
-use Rattle.printing.proofs.BackLaws.{back-silence, back-busy, back-collision}
-use Rattle.printing.proofs.back.state_of.Statement.{statement}
-use Rattle.printing.proofs.back.state_of.Tie as tie
+use Rattle.readback.proofs.BackLaws.{back-silence, back-busy, back-collision}
+use Rattle.readback.proofs.state_of.Statement.{statement}
+use Rattle.readback.proofs.state_of.Tie as tie
 
 pub state-of-spec : {M : Type 1} → statement M
 state-of-spec =

@@ -1,9 +1,9 @@
 -- Every field from its bytes.
 use borrow.Author.Needs.{needs}
 use Prim.Native.Nat.{_*_}
-use Rattle.printing.proofs.BackLaws.{row-back}
-use Rattle.printing.proofs.back.row_at.Statement.{statement}
-use Rattle.printing.proofs.back.row_at.Tie as tie
+use Rattle.readback.proofs.BackLaws.{row-back}
+use Rattle.readback.proofs.row_at.Statement.{statement}
+use Rattle.readback.proofs.row_at.Tie as tie
 
 returns : tie.Need-returns
 returns c q is =

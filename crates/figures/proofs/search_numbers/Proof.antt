@@ -2,8 +2,8 @@
 use mathlib.Core.Path.{refl, ap}
 use Prim.Native.Nat.{ℕ}
 use borrow.Author.Needs.{needs}
-use Rattle.exports.proofs.search_numbers.Statement.{statement}
-use Rattle.exports.proofs.search_numbers.Tie as tie
+use Rattle.figures.proofs.search_numbers.Statement.{statement}
+use Rattle.figures.proofs.search_numbers.Tie as tie
 
 pub search-numbers-spec : {M : Type 1} → statement M
 search-numbers-spec =

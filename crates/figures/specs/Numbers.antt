@@ -8,11 +8,11 @@
 use Prim.Native.Nat.{ℕ}
 use lib.IntN.{ℤ}
 use Rattle.wire.specs.Answer.{Reading}
-use Rattle.exports.specs.declared.SearchNumbers.{SearchNumbers}
-use Rattle.exports.specs.declared.CountNumbers.{CountNumbers}
-use Rattle.exports.specs.declared.ClassNumbers.{ClassNumbers}
-use Rattle.exports.specs.declared.RunNumbers.{RunNumbers}
-use Rattle.exports.specs.declared.WithdrawalNumbers.{WithdrawalNumbers}
+use Rattle.figures.specs.declared.SearchNumbers.{SearchNumbers}
+use Rattle.figures.specs.declared.CountNumbers.{CountNumbers}
+use Rattle.figures.specs.declared.ClassNumbers.{ClassNumbers}
+use Rattle.figures.specs.declared.RunNumbers.{RunNumbers}
+use Rattle.figures.specs.declared.WithdrawalNumbers.{WithdrawalNumbers}
 
 -- each struct's fields, in the order in which the calls' own definitions have them
 abbrev pub searchNumbers : SearchNumbers → ℕ × ℕ × ℕ × ℕ

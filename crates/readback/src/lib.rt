@@ -1,11 +1,12 @@
-// A row of the log, read back from its 16 bytes.
+// Readback: a row of the log, read back from its 16 bytes (docs/RULES.md, section 4).
+// Uses rows.
 use rows::Channel;
 use rows::Phase;
 use rows::Row;
 ghost use mathlib.Core.Path.{_≡_};
 ghost use Prim.Native.Nat.{_+_, _*_, _≤_};
 ghost use lib.ListN.{length, getD, take, drop};
-ghost use Rattle.printing.specs.Work.{PhaseBack, StateBack, RowBack};
+ghost use Rattle.readback.specs.Back.{PhaseBack, StateBack, RowBack};
 
 // A byte as a number in which four of them fit.
 fn wide(byte: u8) -> u32

@@ -1,12 +1,12 @@
 -- By the case of the answer.
-use mathlib.Core.Path.{refl, ap}
+use mathlib.Core.Path.{ap}
 use Prim.Native.Nat.{ℕ}
 use lib.IntN.{ℤ, pos}
 use mir.Syntax.{w64}
 use mir.ValLaws.{toZ-ofZ}
 use borrow.Author.Needs.{needs}
-use Rattle.exports.proofs.class_numbers.Statement.{statement}
-use Rattle.exports.proofs.class_numbers.Tie as tie
+use Rattle.figures.proofs.class_numbers.Statement.{statement}
+use Rattle.figures.proofs.class_numbers.Tie as tie
 
 returns : tie.Need-returns
 returns c =

@@ -1,7 +1,7 @@
 -- Each byte in its turn.
-use Rattle.printing.proofs.BackLaws.{back-free, back-time, back-static, back-bare}
-use Rattle.printing.proofs.back.phase_of.Statement.{statement}
-use Rattle.printing.proofs.back.phase_of.Tie as tie
+use Rattle.readback.proofs.BackLaws.{back-free, back-time, back-static, back-bare}
+use Rattle.readback.proofs.phase_of.Statement.{statement}
+use Rattle.readback.proofs.phase_of.Tie as tie
 
 pub phase-of-spec : {M : Type 1} → statement M
 phase-of-spec =
