@@ -27,12 +27,6 @@ last-append [] i = refl
 last-append (j ∷ []) i = refl
 last-append (j ∷ k ∷ l) i = last-append (k ∷ l) i
 
--- the only number of a list of one
-pub contenders-one : (l : List ℕ) → length l ≡ 1 → l ≡ lastOf l ∷ []
-contenders-one [] e = absurd (omega arith)
-contenders-one (i ∷ []) e = refl
-contenders-one (i ∷ j ∷ l) e = absurd (omega arith)
-
 -- f of each number below n, added up
 abbrev pub sumBelow : (ℕ → ℕ) → ℕ → ℕ
 sumBelow f zero = 0

@@ -10,6 +10,7 @@ use lib.Dec.{ltb, eqb}
 use lib.ListN.{length, getD, take, drop, length-drop, take-append-drop, List·getD-append}
 use lib.Seq.{take-suc, getD-drop, drop-drop}
 use borrow.Author.Tests.{lt-ltb, le-ltb, eqb-true, eqb-false}
+use Rattle.messages.proofs.ListLaws.{map-take}
 use Rattle.trees.specs.Search.{ones}
 use Rattle.trees.proofs.Powers.{le-or-lt}
 use Rattle.trees.proofs.LeafLaws.{part}
@@ -106,14 +107,9 @@ ones-owners z f few (o ∷ l) =
     first (suc (suc b)) l h = absurd (omega arith)
 
 -- the leaf bytes of a part
-take-map : (f : ℕ → ℕ) (w : ℕ) (l : List ℕ) → take w (map f l) ≡ map f (take w l)
-take-map f zero l = refl
-take-map f (suc w) [] = refl
-take-map f (suc w) (o ∷ l) = ap (λ (k : List ℕ). f o ∷ k) (take-map f w l)
-
 pub part-map : (f : ℕ → ℕ) (l : List ℕ) (a w : ℕ) → part (map f l) a w ≡ map f (part l a w)
-part-map f l zero w = take-map f w l
-part-map f [] (suc a) w = take-map f w []
+part-map f l zero w = map-take f w l
+part-map f [] (suc a) w = map-take f w []
 part-map f (o ∷ l) (suc a) w = part-map f l a w
 
 -- ---- the owners at the front of the table

@@ -20,7 +20,8 @@ use Rattle.wire.specs.Answer.{readingOf, ranOf, marks}
 use Rattle.wire.specs.Promise.{RunPromise}
 use Rattle.wire.proofs.BudgetLaws.{events-few}
 use Rattle.runs.specs.Work.{stationsOf, arrivalsOf, relativesOf, lengthsOf}
-use Rattle.runs.proofs.ColumnLaws.{map-take, listed-columns}
+use Rattle.messages.proofs.ListLaws.{map-take}
+use Rattle.runs.proofs.ColumnLaws.{listed-columns}
 use Rattle.runs.proofs.RunLaws.{columns-same}
 use Rattle.printing.specs.Report.{refusedText, reportBy}
 use Rattle.printing.specs.Work.{Put, Reported}

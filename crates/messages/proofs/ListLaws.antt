@@ -1,7 +1,7 @@
 -- The list of messages that the slices hold: its length, its places, a slot of sending set, and the list as a run begins.
 use mathlib.Core.Path.{_≡_, refl, sym, ap, subst, _∙_}
 use mathlib.Core.Bool.{Bool, true, false, not, _&&_}
-use mathlib.Core.List.{List, [], _∷_}
+use mathlib.Core.List.{List, [], _∷_, map}
 use mathlib.Core.Logic.{_⊎_, inl, inr, ⊎-elim}
 use Prim.Native.Nat.{ℕ, zero, suc, _+_, _<_}
 use native.Mathlib.Numerals.{add-one}
@@ -16,6 +16,12 @@ use Rattle.messages.specs.Lists.{listed, allMarked, SameLength, Timed, T
 use Rattle.messages.proofs.OrderLaws.{candidate, among}
 
 -- ---- length and places
+
+-- the first n, of a list and of f of each
+pub map-take : {A B : Type 0} (f : A → B) (n : ℕ) (l : List A) → take n (map f l) ≡ map f (take n l)
+map-take f zero l = refl
+map-take f (suc n) [] = refl
+map-take f (suc n) (x ∷ l) = ap (λ q. f x ∷ q) (map-take f n l)
 
 -- as many messages as stations
 pub length-listed : (stations arrivals relatives lengths sent : List ℕ) → length (listed stations arrivals relatives lengths sent) ≡ length stations

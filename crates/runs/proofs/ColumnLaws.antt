@@ -18,12 +18,6 @@ module _ (f : Message → ℕ) where
   map-at (m ∷ ms) zero h = refl
   map-at (m ∷ ms) (suc i) h = map-at ms i (omega arith)
 
-  -- the first n
-  pub map-take : (n : ℕ) (ms : List Message) → take n (map f ms) ≡ map f (take n ms)
-  map-take zero ms = refl
-  map-take (suc n) [] = refl
-  map-take (suc n) (m ∷ ms) = ap (λ (l : List ℕ). f m ∷ l) (map-take n ms)
-
   -- those behind the first n
   pub map-drop : (n : ℕ) (ms : List Message) → drop n (map f ms) ≡ map f (drop n ms)
   map-drop zero ms = refl

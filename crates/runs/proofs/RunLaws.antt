@@ -8,26 +8,25 @@ use native.Mathlib.Omega.{arith}
 use lib.Dec.{leb, eqb}
 use lib.ListN.{length, take, drop, length-map, take-append-drop}
 use lib.Seq.{length-take-le, take-all}
-use borrow.Author.Tests.{le-leb, lt-leb, leb-true, eq-eqb, ne-eqb}
+use borrow.Author.Tests.{le-leb, lt-leb, eq-eqb, ne-eqb}
 use borrow.Rule.Slice.PartMut.{putMid, midOf, postOf}
 use Rattle.refusals.specs.declared.Refusal.the-variants.{Messages}
 use Rattle.refusals.specs.declared.Verdict.{Verdict}
 use Rattle.refusals.specs.declared.Verdict.the-variants.{Granted, Refused as Denied}
 use Rattle.refusals.proofs.Verdicts.{ask-granted, then-granted}
-use Rattle.rows.specs.declared.Row.{Row}
 use Rattle.trees.specs.Shape.{treeVerdict}
 use Rattle.trees.proofs.Powers.{le-or-lt}
 use Rattle.messages.specs.declared.Message.{Message}
 use Rattle.messages.specs.Lists.{listed}
+use Rattle.messages.proofs.ListLaws.{map-take}
 use Rattle.phases.specs.declared.Shop.{Shop}
 use Rattle.inputs.specs.Inputs.{sameLengths, shopVerdict, budgetVerdict, runVerdict, tableOf}
 use Rattle.wire.specs.declared.Outcome.{Outcome}
-use Rattle.wire.specs.Run.{World}
-use Rattle.wire.specs.Answer.{Reading, readingOf, readingBy, marksBy, logBy, ranOf, marks}
+use Rattle.wire.specs.Answer.{readingBy, marksBy, logBy, ranOf, marks}
 use Rattle.wire.specs.Promise.{RunPromise}
 use Rattle.runs.specs.Slots.{slotted, messagesBy}
 use Rattle.runs.specs.Work.{stationsOf, arrivalsOf, relativesOf, lengthsOf, wholeOf, TableRan}
-use Rattle.runs.proofs.ColumnLaws.{map-take, map-drop, listed-columns}
+use Rattle.runs.proofs.ColumnLaws.{map-drop, listed-columns}
 use Rattle.messages.proofs.KeptLaws.{bare}
 use Rattle.wire.proofs.KeptLaws.{same-records}
 use Rattle.runs.proofs.SlotLaws.{slotted-append, slotted-own, slotted-bare}

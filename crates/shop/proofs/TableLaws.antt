@@ -1,9 +1,9 @@
 -- From the table back to the list: what `load`, the work on the table and `store` come to.
 use mathlib.Core.Path.{_≡_, refl, sym, ap, _∙_, subst}
-use mathlib.Core.Bool.{Bool, true, false, _&&_}
+use mathlib.Core.Bool.{Bool, true, _&&_}
 use mathlib.Core.Logic.{_⊎_, inl, inr}
 use mathlib.Core.List.{List, [], _∷_, _++_}
-use Prim.Native.Nat.{ℕ, suc, _≤_, _<_}
+use Prim.Native.Nat.{ℕ, _≤_, _<_}
 use native.Mathlib.Nat.{le-of-suc-le-suc, not-suc-le-zero}
 use native.Mathlib.Omega.{arith}
 use lib.Dec.{leb}
@@ -27,7 +27,7 @@ use Rattle.withdrawals.proofs.KeptLaws.{length-after}
 use Rattle.withdrawals.proofs.LoopLaws.{granted-count}
 use Rattle.phases.specs.declared.Shop.{Shop}
 use Rattle.inputs.specs.Inputs.{allFit, shopVerdict, budgetVerdict, runVerdict, tableOf}
-use Rattle.wire.specs.Answer.{readingOf, readingBy, logBy, ranOf}
+use Rattle.wire.specs.Answer.{readingBy, logBy, ranOf}
 use Rattle.runs.specs.declared.Ran.{Ran}
 use Rattle.runs.specs.Slots.{messagesBy}
 use Rattle.runs.specs.Work.{TableRan}
