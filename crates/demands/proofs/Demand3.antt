@@ -38,7 +38,9 @@ use Rattle.demands.specs.Claims.{OneIndexEach, timesIn, staticRows, sear
 use Rattle.demands.specs.Claims.{BeginsLike, contends, contending, staticHeight, bareRows, StaticSearch}
 use Rattle.demands.specs.Claims.{worldAt, rowsAfter, StaticSearches}
 use Rattle.demands.proofs.IndexLaws.{Front, front-of, sum-alike, ones-owners}
+use Rattle.demands.specs.Rows.{StaticUntil}
 use Rattle.demands.proofs.FollowLaws.{Along, static-power, follow}
+use Rattle.demands.proofs.RowLaws.{lasting-same, lasting-fit, behind-from, quiet-until}
 
 -- rows that go like the first of others cost no more
 cost-alike : (rows others : List Row) → BeginsLike rows others → cost rows ≤ cost others
@@ -71,7 +73,7 @@ module _ (S : Shop) (table owners : List ℕ) (one : OneIndexEach S owners) (fro
   module _ (W : World) (s : ℕ) (more : 2 ≤ s)
       (contend : length (contenders S table (W .messages) (W .state)) ≡ s) where
     -- no row was written
-    none-written : StaticSearch S table owners W [] s
+    pub none-written : StaticSearch S table owners W [] s
     none-written = record {
       active = as-many W ∙ contend;
       alike = tt;
@@ -80,26 +82,26 @@ module _ (S : Shop) (table owners : List ℕ) (one : OneIndexEach S owners) (fro
     }
 
     -- the collision's row, and rows that go along the walk over the children
-    some-written : (r : Row) (rows : List Row) (j : ℕ) → r .state ≡ Collision → nodes m n ≤ suc j
+    pub some-written : (r : Row) (rows : List Row) (j : ℕ) → r .state ≡ Collision → nodes m n ≤ suc j
         → Along rows (behind W j) → StaticSearch S table owners W (r ∷ rows) s
     some-written r rows j collides few al =
         let leaves : List ℕ = contending S table owners W in
         let size : length leaves ≡ m ^ n = length-map owners _ ∙ long ∙ static-power S grown in
         let all : ones leaves ≡ s = as-many W ∙ contend in
-        let bare : bareRows S table owners W ≡ bareRow 0 Collision 0 (m ^ n) 65535 ∷ behind W j =
+        let found : bareRows S table owners W ≡ bareRow 0 Collision 0 (m ^ n) 65535 ∷ behind W j =
         search-collides m n leaves j (grown .tree .branches) size (omega arith) few
         ∙ ap (λ (q : ℕ). bareRow 0 Collision 0 (m ^ n) 65535 ∷ walk (bareRule leaves) m n j 0 (q / m) 1 .0)
         (sym (static-power S grown)) in
         record {
           active = all;
-          alike = rw bare (al .alike);
-          whole = λ h. rw bare (ap suc (al .whole (omega arith)));
+          alike = rw found (al .alike);
+          whole = λ h. rw found (ap suc (al .whole (omega arith)));
           costs = omega (
             arith,
             cost-both (r ∷ staticRows rows),
             ap lost collides,
             cost-alike (staticRows rows) (behind W j) (al .alike),
-            ap cost bare,
+            ap cost found,
             cost-both (bareRows S table owners W),
             searched m n leaves (grown .tree .branches) size .costs,
             ap (X m n) all,
@@ -183,3 +185,14 @@ static-searches S owners whole ms budget room granted one j k s c q =
     leaf-search S (tableOf owners) owners one front (p .index) (p .entries) W k s c
     (quiet-same ms (W .messages) (sym (same-records S (tableOf owners) j ms)) (W .state .slot)
     (searchFrom (rowsAfter S owners ms j k)) q)
+
+-- THE SAME BY SLOTS: nothing arrives from the collision until the search's end
+pub static-until : (S : Shop) (owners : List ℕ) (whole : Bool) (ms : List Message) (budget room : ℕ)
+    → runVerdict S owners whole ms budget room ≡ Granted → OneIndexEach S owners → StaticUntil S owners ms
+static-until S owners whole ms budget room granted one j k s c q =
+    let p = passed S owners whole ms budget room granted in
+    let W : World = worldAt S owners ms j in
+    let lasting = lasting-same ms (W .messages) (sym (same-records S (tableOf owners) j ms))
+    (lasting-fit (S .stations) ms (p .fit)) in
+    static-searches S owners whole ms budget room granted one j k s c
+    (quiet-until ms (W .state .slot) (rowsAfter S owners ms j k) (behind-from S (tableOf owners) k W lasting) q)

@@ -38,17 +38,17 @@ use Rattle.wire.proofs.RunLaws.{run-by}
 use Rattle.wire.proofs.BudgetLaws.{rows-few}
 use Rattle.wire.proofs.KeptLaws.{same-records}
 use Rattle.demands.specs.Claims.{timesIn, staticRows, ifStatic, searchFrom, Quiet}
-use Rattle.demands.specs.Rows.{OneBehind, endOf, Told, RowsTell}
+use Rattle.demands.specs.Rows.{OneBehind, endOf, NoneUntil, Told, RowsTell}
 use Rattle.demands.proofs.IndexLaws.{bit, times-cons}
 use Rattle.demands.proofs.TreeLaws.{run-in-tree}
 
 -- each message takes a slot at least, and 1,000 at most
-record Lasting (ms : List Message) : Type 0 where
+pub record Lasting (ms : List Message) : Type 0 where
   pub some : (i : ℕ) → i < length ms → 1 ≤ getD ms i blank .length
   pub short : (i : ℕ) → getD ms i blank .length ≤ 1000
 
 -- the same records last as long
-lasting-same : (ms ns : List Message) → map bare ns ≡ map bare ms → Lasting ms → Lasting ns
+pub lasting-same : (ms ns : List Message) → map bare ns ≡ map bare ms → Lasting ms → Lasting ns
 lasting-same ms ns same l = record {
   some = λ i h. rw (still i) (l .some i (omega (arith, bare-length ms ns same)));
   short = λ i. rw (still i) (l .short i);
@@ -83,7 +83,7 @@ module _ (S : Shop) (table : List ℕ) (ms : List Message) (σ : State) where
   abbrev last : ℕ
   last = lastOf (contenders S table ms σ)
 
-  -- what an event of n contenders sends, and how long it lasts
+  -- what an event of n contenders sends
   by-number : (n used : ℕ) → length (contenders S table ms σ) ≡ n
       → Sends (σ .slot) (eventOn S ms σ (channelOf n) last used .row) ms
       (eventOn S ms σ (channelOf n) last used .messages)
@@ -178,9 +178,23 @@ module _ (slot : ℕ) (early : slot < unsent) (r : Row) (ms ns : List Message) w
 
 -- ---- every run
 
+-- each row starts where the one before it ended, from any world on
+pub behind-from : (S : Shop) (table : List ℕ) (k : ℕ) (W : World) → Lasting (W .messages)
+    → OneBehind (W .state .slot) (run S table k W .0)
+behind-from S table =
+    run-by S table (λ k W rows last. Lasting (W .messages) → OneBehind (W .state .slot) rows)
+    (λ k W l. tt)
+    (λ k W last rows ih l.
+    let E : Event = eventIn S table W in
+    let next : E .state .slot ≡ W .state .slot + E .row .used = event-slot S table (W .messages) (W .state) in
+    let same = bare-event S table (W .messages) (W .state) in (
+      refl,
+      event-used S table (W .messages) (W .state) l .0,
+      subst (λ (slot : ℕ). OneBehind slot rows) next (ih (lasting-same (W .messages) (E .messages) same l)),
+    ))
+
 -- what the rows tell of the worlds before and after them
 record Telling (W : World) (rows : List Row) (last : World) : Type 0 where
-  pub behind : OneBehind (W .state .slot) rows
   pub ends : last .state .slot ≡ endOf (W .state .slot) rows
   pub counted : (i : ℕ)
       → timesIn (sent rows) i + isSent (getD (W .messages) i blank) ≡ isSent (getD (last .messages) i blank)
@@ -189,7 +203,7 @@ record Telling (W : World) (rows : List Row) (last : World) : Type 0 where
   pub told : Told (last .messages) rows
 
 telling-none : (W : World) → Telling W [] W
-telling-none W = record { behind = tt; ends = refl; counted = λ i. omega arith; stay = λ i f. refl; told = tt }
+telling-none W = record { ends = refl; counted = λ i. omega arith; stay = λ i f. refl; told = tt }
 
 -- where no slot comes near the mark of an unsent message
 run-tells : (S : Shop) (table : List ℕ) (k : ℕ) (W : World) → Lasting (W .messages) → W .state .slot + 1000 * k < unsent
@@ -209,7 +223,6 @@ run-tells S table =
     let stays = sends-stay (W .state .slot) early (E .row) (W .messages) (E .messages) sends in
     let marks = sends-mark (W .state .slot) early (E .row) (W .messages) (E .messages) sends in
     record {
-      behind = (refl, used .0, subst (λ (s : ℕ). OneBehind s rows) next (t .behind));
       ends = t .ends ∙ ap (λ (s : ℕ). endOf s rows) next;
       counted = λ i.
           sends-count (W .state .slot) early (E .row) (W .messages) (E .messages) sends rows i ∙ t .counted i;
@@ -223,7 +236,7 @@ run-tells S table =
     })
 
 -- messages that fit last
-lasting-fit : (z : ℕ) (ms : List Message) → allFit z ms ≡ true → Lasting ms
+pub lasting-fit : (z : ℕ) (ms : List Message) → allFit z ms ≡ true → Lasting ms
 lasting-fit z ms e = record {
   some = λ i h. timed-lasting z ms e i h .1;
   short = λ i.
@@ -261,7 +274,7 @@ rows-tell S owners whole ms budget room granted k h =
     let t = run-tells S (tableOf owners) k (start ms) lasting (omega (arith, p .few)) in
     record {
       few = rows-few S (tableOf owners) k (start ms);
-      behind = t .behind;
+      behind = behind-from S (tableOf owners) k (start ms) lasting;
       ends = t .ends;
       once = start-once S (tableOf owners) k ms t;
       no-other = start-no-other S (tableOf owners) k ms t;
@@ -277,8 +290,7 @@ end-later slot (r ∷ rows) = omega (arith, end-later (slot + r .used) rows)
 
 -- what arrives at or after the rows' end arrives at none of them
 quiet-rows : (ms : List Message) (from slot : ℕ) (rows : List Row) → OneBehind slot rows
-    → ((i : ℕ) → i < length ms → from < getD ms i blank .arrival → endOf slot rows ≤ getD ms i blank .arrival)
-    → Quiet ms from rows
+    → NoneUntil ms from (endOf slot rows) → Quiet ms from rows
 quiet-rows ms from slot [] b h = tt
 quiet-rows ms from slot (r ∷ rows) b h = (
   λ i l f. omega (arith, h i l f, end-later (slot + r .used) rows, b .0, b .1),
@@ -302,7 +314,5 @@ search-behind slot (r ∷ rows) b = (b .0, b .1, static-behind (slot + r .used) 
 
 -- NOTHING ARRIVES from the collision's slot until the search's end: then the search is quiet
 pub quiet-until : (ms : List Message) (slot : ℕ) (rows : List Row) → OneBehind slot rows
-    → ((i : ℕ) → i < length ms → slot < getD ms i blank .arrival
-    → endOf slot (searchFrom rows) ≤ getD ms i blank .arrival)
-    → Quiet ms slot (searchFrom rows)
+    → NoneUntil ms slot (endOf slot (searchFrom rows)) → Quiet ms slot (searchFrom rows)
 quiet-until ms slot rows b h = quiet-rows ms slot slot (searchFrom rows) (search-behind slot rows b) h

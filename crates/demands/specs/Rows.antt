@@ -2,6 +2,8 @@
 --
 --   OneBehind slot rows    the first row starts in the slot, each other where the one before it ended; none is empty
 --   endOf slot rows        the slot after the last row
+--   NoneUntil ms from to   no message arrives after the slot `from` and before the slot `to`
+--   StaticUntil S owners ms    `StaticSearches` by slots: nothing arrives until the search's end
 --   Told ms rows           each message that a row names as sent has that row's slot as its slot of sending
 --   InTree S r             the row r names a subtree of the tree that its phase searches; a free row names none
 --   AllInTree S rows       each row does
@@ -26,7 +28,8 @@ use Rattle.phases.specs.declared.Shop.{Shop}
 use Rattle.phases.specs.declared.Standing.the-variants.{Static}
 use Rattle.phases.specs.Work.{Subtree}
 use Rattle.wire.specs.Run.{isSent}
-use Rattle.demands.specs.Claims.{timesIn, staticRows, worldAt, rowsAfter}
+use Rattle.inputs.specs.Inputs.{tableOf}
+use Rattle.demands.specs.Claims.{timesIn, staticRows, searchFrom, LeafCollision, StaticSearch, worldAt, rowsAfter}
 
 -- so slots ascend
 abbrev pub OneBehind : ℕ → List Row → Type 0
@@ -37,6 +40,19 @@ OneBehind slot (r ∷ rows) = (r .slot ≡ slot) × (1 ≤ r .used) × OneBehind
 abbrev pub endOf : ℕ → List Row → ℕ
 endOf slot [] = slot
 endOf slot (r ∷ rows) = endOf (slot + r .used) rows
+
+-- what arrives after `from` arrives at `to` or later
+abbrev pub NoneUntil : List Message → ℕ → ℕ → Type 0
+NoneUntil ms from to = (i : ℕ) → i < length ms → from < getD ms i blank .arrival → to ≤ getD ms i blank .arrival
+
+-- the second half of demand 3 in its own words: from the collision until the end of the search no message arrives
+abbrev pub StaticUntil : Shop → List ℕ → List Message → Type 0
+StaticUntil S owners ms =
+    (j k s : ℕ)
+    → LeafCollision S (tableOf owners) (worldAt S owners ms j) s
+    → NoneUntil ms (worldAt S owners ms j .state .slot)
+    (endOf (worldAt S owners ms j .state .slot) (searchFrom (rowsAfter S owners ms j k)))
+    → StaticSearch S (tableOf owners) owners (worldAt S owners ms j) (rowsAfter S owners ms j k) s
 
 -- in the list as it stands at the end
 abbrev pub Told : List Message → List Row → Type 0
