@@ -3,20 +3,26 @@
 /// SplitMix64: small, and the same everywhere.
 pub struct Random(u64);
 
+/// What the state grows by with each number.
+const STEP: u64 = 0x9e37_79b9_7f4a_7c15;
+
+/// Another number for each number, with nothing left of their order.
+fn mixed(mut z: u64) -> u64 {
+    z = (z ^ (z >> 30)).wrapping_mul(0xbf58_476d_1ce4_e5b9);
+    z = (z ^ (z >> 27)).wrapping_mul(0x94d0_49bb_1331_11eb);
+    z ^ (z >> 31)
+}
+
 impl Random {
-    /// The numbers of one case, whatever cases came before it.
+    /// The numbers of one case, whatever cases came before it. The cases begin far from each other: states that are some
+    /// steps apart would give the same numbers, only earlier or later.
     pub fn of_case(seed: u64, case: u64) -> Random {
-        let mut random = Random(seed ^ case.wrapping_mul(0x9e37_79b9_7f4a_7c15));
-        random.number();
-        random
+        Random(mixed(mixed(seed.wrapping_add(STEP)) ^ case))
     }
 
     pub fn number(&mut self) -> u64 {
-        self.0 = self.0.wrapping_add(0x9e37_79b9_7f4a_7c15);
-        let mut z = self.0;
-        z = (z ^ (z >> 30)).wrapping_mul(0xbf58_476d_1ce4_e5b9);
-        z = (z ^ (z >> 27)).wrapping_mul(0x94d0_49bb_1331_11eb);
-        z ^ (z >> 31)
+        self.0 = self.0.wrapping_add(STEP);
+        mixed(self.0)
     }
 
     /// A number from `low` to `high`, both in it.
