@@ -2,7 +2,7 @@
 
 use crate::random::Random;
 use crate::trees::{odd_tree, tree};
-use independent::message::Message;
+use independent::message::{Message, UNSENT};
 use independent::shop::{Shape, Shop, FREE};
 
 /// All that a run takes; `roomier` is how much its log's room differs from what is asked, in bytes.
@@ -85,7 +85,19 @@ impl Traffic {
                 traffic.damage(random);
             }
         }
+        traffic.mark(random);
         traffic
+    }
+
+    /// Gives every message a slot of sending, which a run is not to heed: none, the first, or any.
+    pub fn mark(&mut self, random: &mut Random) {
+        for one in &mut self.messages {
+            one.sent = match random.within(0, 3) {
+                0 => 0,
+                1 => UNSENT,
+                _ => random.number() as u32,
+            };
+        }
     }
 
     fn damage(&mut self, random: &mut Random) {
@@ -158,9 +170,9 @@ pub fn shape((branches, leaves): (u32, u32)) -> Shape {
     Shape { branches, leaves }
 }
 
-/// A message with these numbers, and anything as its slot of sending.
+/// A message with these numbers; its slot of sending is for [`Traffic::mark`] to choose.
 pub fn message_of(station: u32, arrival: u32, relative: u32, length: u32) -> Message {
-    Message { station, arrival, relative, length, sent: 0x5e5e_5e5e }
+    Message { station, arrival, relative, length, sent: 0 }
 }
 
 /// A message, at times with the absolute deadline of many others or with numbers at the ends of their ranges.

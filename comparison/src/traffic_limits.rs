@@ -1,6 +1,6 @@
 //! Shops at each limit of docs/RULES.md and one past it.
 
-use crate::random::edges;
+use crate::random::{edges, Random};
 use crate::traffic::{message_of, shape, Traffic};
 use crate::trees::limit_trees;
 use independent::shop::{Shop, FREE};
@@ -36,14 +36,17 @@ fn with(change: impl Fn(&mut Traffic)) -> Traffic {
 
 /// Each number, list and length at the ends of its range and one past them.
 pub fn limits() -> Vec<Traffic> {
-    [
+    let mut all = [
         tree_limits(),
         number_limits(),
         table_limits(),
         message_limits(),
         list_limits(),
     ]
-    .concat()
+    .concat();
+    let mut random = Random::of_case(0, 0);
+    all.iter_mut().for_each(|one| one.mark(&mut random));
+    all
 }
 
 fn tree_limits() -> Vec<Traffic> {

@@ -52,6 +52,11 @@ fn smaller_message(traffic: &Traffic, place: usize) -> Vec<Traffic> {
             all.push(one);
         }
     }
+    if message.sent != 0 {
+        let mut one = traffic.clone();
+        one.messages[place].sent = 0;
+        all.push(one);
+    }
     all
 }
 
