@@ -44,14 +44,17 @@ impl Case for Answer {
     fn run(&self, noise: &mut Random) -> Seen {
         let mut own = noise.noise(self.room);
         let mut lent = Lent::new(&own, noise);
-        let written = product::answer(&self.input, lent.part());
+        let mut lent_input = Lent::new(&self.input, noise);
+        let written = product::answer(lent_input.part(), lent.part());
         let answer = if self.room < ROOM {
             Vec::new()
         } else {
             text::answer(&self.input)
         };
         own[..answer.len()].copy_from_slice(&answer);
-        let difference = unequal("bytes written", &written, &answer.len()).or_else(|| lent.unequal("output", &own));
+        let difference = unequal("bytes written", &written, &answer.len())
+            .or_else(|| lent.unequal("output", &own))
+            .or_else(|| lent_input.unequal("input", &self.input));
         let answer = if self.room < ROOM {
             "no room".to_string()
         } else {

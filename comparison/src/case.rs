@@ -158,3 +158,34 @@ impl Lent {
         unequal_lists(what, self.part(), independent)
     }
 }
+
+/// A lent part of a larger list, which has noise before and behind it.
+pub struct LentList<T> {
+    buffer: Vec<T>,
+    before: Vec<T>,
+    count: usize,
+}
+
+/// Items of noise on each side of a lent list.
+const BESIDE: usize = 2;
+
+impl<T: Copy + PartialEq + Debug> LentList<T> {
+    pub fn new(items: &[T], mut noise: impl FnMut() -> T) -> LentList<T> {
+        let mut guards = || std::array::from_fn::<T, BESIDE, _>(|_| noise());
+        let buffer = [&guards()[..], items, &guards()].concat();
+        LentList { before: buffer.clone(), buffer, count: items.len() }
+    }
+
+    pub fn part(&mut self) -> &mut [T] {
+        &mut self.buffer[BESIDE..BESIDE + self.count]
+    }
+
+    /// As for bytes.
+    pub fn unequal(&mut self, what: &str, independent: &[T]) -> Option<String> {
+        let end = BESIDE + self.count;
+        if self.buffer[..BESIDE] != self.before[..BESIDE] || self.buffer[end..] != self.before[end..] {
+            return Some(format!("{what}: an item beside the list was changed"));
+        }
+        unequal_lists(what, self.part(), independent)
+    }
+}

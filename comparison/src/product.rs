@@ -2,6 +2,7 @@
 //!
 //! No call asks anything of its caller but what a slice is anyway: memory that may be read, or written by nobody else.
 
+use independent::fields::Fields;
 use independent::message::Message;
 use independent::shop::Shop;
 
@@ -134,15 +135,6 @@ pub fn run(shop: &Shop, owners: &[u32], messages: &mut [Message], log: &mut [u8]
             budget,
         )
     }
-}
-
-/// Messages held field by field, as the other form of the run takes them.
-pub struct Fields<'a> {
-    pub stations: &'a [u32],
-    pub arrivals: &'a [u32],
-    pub relatives: &'a [u32],
-    pub lengths: &'a [u32],
-    pub sent: &'a mut [u32],
 }
 
 pub fn run_fields(shop: &Shop, owners: &[u32], fields: Fields, log: &mut [u8], budget: u32) -> RunNumbers {

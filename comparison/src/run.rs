@@ -1,14 +1,16 @@
 //! The cases of runs, over records and over slices of numbers.
 
-use crate::case::{unequal, unequal_lists, Case, Lent, Seen};
-use crate::product::{self, Fields, RunNumbers};
+use crate::case::{unequal, Case, Lent, LentList, Seen};
+use crate::product::{self, RunNumbers};
 use crate::random::Random;
 use crate::traffic::Traffic;
 use crate::traffic_limits::limits;
 use crate::traffic_smaller::smaller;
-use crate::withdrawal::LentRecords;
+use crate::withdrawal::any_record;
+use independent::fields::{run_fields, Fields};
 use independent::message::Message;
-use independent::run;
+use independent::refusal::Refusal;
+use independent::run::{run, Closing};
 
 const ANSWERS: &[&str] = &[
     "done",
@@ -25,9 +27,9 @@ const ANSWERS: &[&str] = &[
     "refused 11",
 ];
 
-/// What the independent program answers, and what it leaves of the messages and the log.
-fn independent_run(traffic: &Traffic, messages: &mut [Message], log: &mut [u8]) -> RunNumbers {
-    match run::run(&traffic.shop, &traffic.owners, messages, log, traffic.budget) {
+/// What the independent program answers, as the proved calls tell it.
+fn numbers(answer: Result<Closing, Refusal>) -> RunNumbers {
+    match answer {
         Ok(closing) => RunNumbers {
             refusal: 0,
             done: closing.done,
@@ -72,15 +74,16 @@ impl Case for Run {
         let traffic = &self.0;
         let mut own = traffic.messages.clone();
         let mut own_log = noise.noise(traffic.room());
-        let mut lent = LentRecords::new(&own, noise);
+        let Traffic { shop, owners, budget, .. } = traffic;
+        let mut lent = LentList::new(&own, || any_record(noise, 0));
         let mut lent_log = Lent::new(&own_log, noise);
-        let owners = traffic.owners.clone();
-        let proved = product::run(&traffic.shop, &owners, lent.part(), lent_log.part(), traffic.budget);
-        let expected = independent_run(traffic, &mut own, &mut own_log);
+        let mut lent_owners = LentList::new(owners, || noise.number() as u32);
+        let proved = product::run(shop, lent_owners.part(), lent.part(), lent_log.part(), *budget);
+        let expected = numbers(run(shop, owners, &mut own, &mut own_log, *budget));
         let difference = unequal("answer", &proved, &expected)
             .or_else(|| lent_log.unequal("log", &own_log))
-            .or_else(|| lent.unequal(&own))
-            .or_else(|| unequal_lists("owners", &owners, &traffic.owners));
+            .or_else(|| lent.unequal("records", &own))
+            .or_else(|| lent_owners.unequal("owners", owners));
         Seen::of(proved.refusal, end(&proved, &own_log), difference)
     }
 
@@ -97,21 +100,6 @@ pub struct RunFields {
 }
 
 impl RunFields {
-    /// Slices of unequal length are no list of messages: refusal 9 in its turn, as of a record that is out of range.
-    fn expected(&self, log: &mut [u8]) -> (RunNumbers, Vec<Message>) {
-        let mut messages = self.traffic.messages.clone();
-        if self.unequal_slices() {
-            let mut none = [Message { station: u32::MAX, ..Message::default() }];
-            return (independent_run(&self.traffic, &mut none, log), messages);
-        }
-        let numbers = independent_run(&self.traffic, &mut messages, log);
-        (numbers, messages)
-    }
-
-    fn unequal_slices(&self) -> bool {
-        self.odd < 5 && !self.traffic.messages.is_empty()
-    }
-
     /// One field of every message.
     fn field(&self, place: usize) -> Vec<u32> {
         let of = |one: &Message| [one.station, one.arrival, one.relative, one.length, one.sent][place];
@@ -121,6 +109,11 @@ impl RunFields {
         }
         all
     }
+}
+
+fn of_slices<'a>(read: [&'a [u32]; 4], sent: &'a mut [u32]) -> Fields<'a> {
+    let [stations, arrivals, relatives, lengths] = read;
+    Fields { stations, arrivals, relatives, lengths, sent }
 }
 
 impl Case for RunFields {
@@ -147,30 +140,25 @@ impl Case for RunFields {
     }
 
     fn run(&self, noise: &mut Random) -> Seen {
+        let Traffic { shop, owners, budget, .. } = &self.traffic;
+        let read: [Vec<u32>; 4] = std::array::from_fn(|place| self.field(place));
+        let mut own = self.field(4);
         let mut own_log = noise.noise(self.traffic.room());
         let mut lent_log = Lent::new(&own_log, noise);
-        let read: [Vec<u32>; 4] = std::array::from_fn(|place| self.field(place));
-        let before = self.field(4);
-        let mut sent = before.clone();
-        let fields = Fields {
-            stations: &read[0],
-            arrivals: &read[1],
-            relatives: &read[2],
-            lengths: &read[3],
-            sent: &mut sent,
-        };
-        let traffic = &self.traffic;
-        let proved = product::run_fields(&traffic.shop, &traffic.owners, fields, lent_log.part(), traffic.budget);
-        let (expected, messages) = self.expected(&mut own_log);
-        let marks = if expected.refusal == 0 {
-            messages.iter().map(|one| one.sent).collect()
-        } else {
-            before
-        };
+        let mut number = || noise.number() as u32;
+        let mut lent = LentList::new(&own, &mut number);
+        let mut lent_owners = LentList::new(owners, &mut number);
+        let mut lent_read = [0, 1, 2, 3].map(|place: usize| LentList::new(&read[place], &mut number));
+        let fields = of_slices(lent_read.each_mut().map(|one| &*one.part()), lent.part());
+        let proved = product::run_fields(shop, lent_owners.part(), fields, lent_log.part(), *budget);
+        let fields = of_slices(read.each_ref().map(|one| &one[..]), &mut own);
+        let expected = numbers(run_fields(shop, owners, fields, &mut own_log, *budget));
+        let mut both = lent_read.iter_mut().zip(&read);
         let difference = unequal("answer", &proved, &expected)
             .or_else(|| lent_log.unequal("log", &own_log))
-            .or_else(|| unequal_lists("slots of sending", &sent, &marks))
-            .or_else(|| unequal("fields", &read, &std::array::from_fn(|place| self.field(place))));
+            .or_else(|| lent.unequal("slots of sending", &own))
+            .or_else(|| lent_owners.unequal("owners", owners))
+            .or_else(|| both.find_map(|(lent, read)| lent.unequal("a field", read)));
         Seen::of(proved.refusal, end(&proved, &own_log), difference)
     }
 

@@ -1,12 +1,12 @@
 //! The cases of withdrawals.
 
-use crate::case::{less, shorter, unequal, unequal_lists, Case, Seen};
+use crate::case::{less, shorter, unequal, Case, LentList, Seen};
 use crate::product::{self, WithdrawalNumbers};
 use crate::random::{edges, Random};
 use independent::message::Message;
 use independent::withdrawal;
 
-/// A list of any records, and a station. Between them stands noise that no call may touch.
+/// A list of any records, and a station.
 #[derive(Clone, Debug)]
 pub struct Withdraw {
     messages: Vec<Message>,
@@ -21,35 +21,6 @@ pub fn any_record(random: &mut Random, station: u32) -> Message {
         relative: random.number() as u32,
         length: random.number() as u32,
         sent: random.number() as u32,
-    }
-}
-
-/// Records with some before and behind them that a call must leave alone.
-pub struct LentRecords {
-    buffer: Vec<Message>,
-    before: Vec<Message>,
-    count: usize,
-}
-
-const BESIDE: usize = 2;
-
-impl LentRecords {
-    pub fn new(messages: &[Message], noise: &mut Random) -> LentRecords {
-        let mut guards = || vec![any_record(noise, 0); BESIDE];
-        let buffer = [guards(), messages.to_vec(), guards()].concat();
-        LentRecords { before: buffer.clone(), buffer, count: messages.len() }
-    }
-
-    pub fn part(&mut self) -> &mut [Message] {
-        &mut self.buffer[BESIDE..BESIDE + self.count]
-    }
-
-    pub fn unequal(&mut self, independent: &[Message]) -> Option<String> {
-        let end = BESIDE + self.count;
-        if self.buffer[..BESIDE] != self.before[..BESIDE] || self.buffer[end..] != self.before[end..] {
-            return Some("records: one beside the list was changed".to_string());
-        }
-        unequal_lists("records", self.part(), independent)
     }
 }
 
@@ -100,13 +71,13 @@ impl Case for Withdraw {
 
     fn run(&self, noise: &mut Random) -> Seen {
         let mut own = self.messages.clone();
-        let mut lent = LentRecords::new(&self.messages, noise);
+        let mut lent = LentList::new(&self.messages, || any_record(noise, 0));
         let proved = product::withdraw(lent.part(), self.station);
         let expected = match withdrawal::withdraw(&mut own, self.station) {
             Ok(counts) => WithdrawalNumbers { refusal: 0, kept: counts.kept, withdrawn: counts.withdrawn },
             Err(refusal) => WithdrawalNumbers { refusal: refusal.0, ..WithdrawalNumbers::default() },
         };
-        let difference = unequal("answer", &proved, &expected).or_else(|| lent.unequal(&own));
+        let difference = unequal("answer", &proved, &expected).or_else(|| lent.unequal("records", &own));
         let kind = match (proved.kept, proved.withdrawn) {
             (_, 0) => "none",
             (0, _) => "all",

@@ -55,6 +55,10 @@ pub enum Fault {
     BudgetFirst,
     /// Run: the index table is asked before the numbers of the shop.
     TableBeforeNumbers,
+    /// Run over fields: slices of unequal length are cut to the shortest.
+    FieldsCut,
+    /// Run over fields: the slots of sending are not handed back.
+    FieldsUnmarked,
     /// Text: numbers may have eleven digits.
     ElevenDigits,
     /// Text: an empty last line is read over.
@@ -71,6 +75,7 @@ impl Fault {
             WorstGrows | WorstTakesAnyCount => "worst_count",
             PlacementCost | PlacementTakesLongLists => "place",
             SearchDropsChild | SearchTakesAnyRoom | SearchWritesBehind => "search",
+            FieldsCut | FieldsUnmarked => "run_fields",
             ElevenDigits | EmptyLine => "program",
             _ => "run",
         }
@@ -78,7 +83,7 @@ impl Fault {
 }
 
 /// Every fault, in order.
-pub const ALL: [Fault; 26] = [
+pub const ALL: [Fault; 28] = [
     Fault::WithdrawalSkips,
     Fault::WithdrawalLeavesTail,
     Fault::WithdrawalInvents,
@@ -103,6 +108,8 @@ pub const ALL: [Fault; 26] = [
     Fault::LateAtDeadline,
     Fault::BudgetFirst,
     Fault::TableBeforeNumbers,
+    Fault::FieldsCut,
+    Fault::FieldsUnmarked,
     Fault::ElevenDigits,
     Fault::EmptyLine,
 ];

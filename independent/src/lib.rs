@@ -5,6 +5,7 @@
 
 pub mod class;
 pub mod fault;
+pub mod fields;
 pub mod message;
 pub mod owners;
 pub mod placement;
