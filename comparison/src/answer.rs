@@ -5,14 +5,27 @@ use crate::product;
 use crate::random::Random;
 use crate::text::{kind, limit_texts, random_text, shorter_texts, ANSWERS};
 use independent::text;
+use std::fmt;
 
 /// The room that every answer fits into.
 const ROOM: usize = 262_144;
 
-#[derive(Clone, Debug)]
+#[derive(Clone)]
 pub struct Answer {
     input: Vec<u8>,
     room: usize,
+}
+
+/// A text is told as one where it is.
+impl fmt::Debug for Answer {
+    fn fmt(&self, f: &mut fmt::Formatter) -> fmt::Result {
+        let mut told = f.debug_struct("Answer");
+        match std::str::from_utf8(&self.input) {
+            Ok(text) => told.field("input", &text),
+            Err(_) => told.field("input", &self.input),
+        };
+        told.field("room", &self.room).finish()
+    }
 }
 
 impl Case for Answer {

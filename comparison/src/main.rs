@@ -18,6 +18,7 @@ use comparison::search::Search;
 use comparison::text;
 use comparison::trees::{Count, Place};
 use comparison::withdrawal::Withdraw;
+use std::io;
 use std::process::ExitCode;
 
 const SEED: u64 = 1;
@@ -34,16 +35,20 @@ fn main() -> ExitCode {
             .map_or(Some(otherwise), |word| word.parse::<u64>().ok())
     };
     let result = commit_fault().and_then(|()| match words.first() {
-        Some(&"calls") => compare_calls(number(1, SEED)?, number(2, CALLS)?),
-        Some(&"case") => compare_one(number(1, SEED)?, number(2, 0)?),
-        Some(&"answers") => compare_answers(number(1, SEED)?, number(2, ANSWERS)?),
-        Some(&"texts") => compare_texts(words.get(1)?, number(2, SEED)?, number(3, TEXTS)?),
-        Some(&"faults") => list_faults(),
+        Some(&"calls") => Some(Ok(compare_calls(number(1, SEED)?, number(2, CALLS)?))),
+        Some(&"case") => Some(Ok(compare_one(number(1, SEED)?, number(2, 0)?))),
+        Some(&"answers") => Some(Ok(compare_answers(number(1, SEED)?, number(2, ANSWERS)?))),
+        Some(&"texts") => Some(compare_texts(words.get(1)?, number(2, SEED)?, number(3, TEXTS)?)),
+        Some(&"faults") => Some(Ok(list_faults())),
         _ => None,
     });
     match result {
-        Some(true) => ExitCode::SUCCESS,
-        Some(false) => ExitCode::from(1),
+        Some(Ok(true)) => ExitCode::SUCCESS,
+        Some(Ok(false)) => ExitCode::from(1),
+        Some(Err(error)) => {
+            eprintln!("the program could not be run: {error}");
+            ExitCode::from(2)
+        }
         None => {
             eprintln!(
                 "calls [SEED [COUNT]], case SEED NUMBER, answers [SEED [COUNT]], texts PROGRAM [SEED [COUNT]] or faults"
@@ -71,11 +76,11 @@ fn commit_fault() -> Option<()> {
     std::env::var("FAULT").is_err().then_some(())
 }
 
-fn list_faults() -> Option<bool> {
+fn list_faults() -> bool {
     for fault in independent::fault::ALL {
         println!("{fault:?} {}", fault.call());
     }
-    Some(true)
+    true
 }
 
 /// Runs one case; prints the smallest input where it differs.
@@ -109,30 +114,31 @@ fn random_case(seed: u64, number: u64, tally: &mut Tally) -> bool {
     }
 }
 
-fn compare_limits<C: Case>(tally: &mut Tally, cases: &mut u64) -> bool {
+fn compare_limits<C: Case>(again: &str, tally: &mut Tally, cases: &mut u64) -> bool {
     C::limits().iter().enumerate().all(|(number, case)| {
         *cases += 1;
-        equal(case, SEED, number as u64, "comparison calls", tally)
+        equal(case, SEED, number as u64, again, tally)
     })
 }
 
-fn compare_calls(seed: u64, count: u64) -> Option<bool> {
+fn compare_calls(seed: u64, count: u64) -> bool {
     let mut tally = Tally::default();
     let mut cases = 0;
-    let limits = compare_limits::<Search>(&mut tally, &mut cases)
-        && compare_limits::<Count>(&mut tally, &mut cases)
-        && compare_limits::<Place>(&mut tally, &mut cases)
-        && compare_limits::<Class>(&mut tally, &mut cases)
-        && compare_limits::<Withdraw>(&mut tally, &mut cases)
-        && compare_limits::<Run>(&mut tally, &mut cases)
-        && compare_limits::<RunFields>(&mut tally, &mut cases);
+    let again = "comparison calls";
+    let limits = compare_limits::<Search>(again, &mut tally, &mut cases)
+        && compare_limits::<Count>(again, &mut tally, &mut cases)
+        && compare_limits::<Place>(again, &mut tally, &mut cases)
+        && compare_limits::<Class>(again, &mut tally, &mut cases)
+        && compare_limits::<Withdraw>(again, &mut tally, &mut cases)
+        && compare_limits::<Run>(again, &mut tally, &mut cases)
+        && compare_limits::<RunFields>(again, &mut tally, &mut cases);
     let all = limits && (0..count).all(|number| random_case(seed, number, &mut tally));
     tally.print();
     if !all {
-        return Some(false);
+        return false;
     }
     println!("{} cases at the limits and {count} of seed {seed} were equal", cases);
-    Some(count == 0 || saw_every_answer(&tally))
+    count == 0 || saw_every_answer(&tally)
 }
 
 fn unseen<C: Case>(tally: &Tally) -> Vec<String> {
@@ -160,47 +166,47 @@ fn none_missing(missing: &[String]) -> bool {
     missing.is_empty()
 }
 
-fn compare_one(seed: u64, number: u64) -> Option<bool> {
+fn compare_one(seed: u64, number: u64) -> bool {
     let mut tally = Tally::default();
     let same = random_case(seed, number, &mut tally);
     tally.print();
-    Some(same)
+    same
 }
 
-fn compare_answers(seed: u64, count: u64) -> Option<bool> {
+fn compare_answers(seed: u64, count: u64) -> bool {
     let mut tally = Tally::default();
     let mut cases = 0;
     let again = format!("comparison answers {seed} {count}");
-    let all = compare_limits::<Answer>(&mut tally, &mut cases)
+    let all = compare_limits::<Answer>("comparison answers", &mut tally, &mut cases)
         && (0..count).all(|number| {
             let case = Answer::random(&mut Random::of_case(seed, number));
             equal(&case, seed, number, &again, &mut tally)
         });
     tally.print();
     if !all {
-        return Some(false);
+        return false;
     }
     println!("{cases} answers at the limits and {count} of seed {seed} were equal");
-    Some(count == 0 || none_missing(&unseen::<Answer>(&tally)))
+    count == 0 || none_missing(&unseen::<Answer>(&tally))
 }
 
-fn compare_texts(program: &str, seed: u64, count: u64) -> Option<bool> {
+fn compare_texts(program: &str, seed: u64, count: u64) -> io::Result<bool> {
     let limits = text::limit_texts();
     let whole = limits.len();
     let random = (0..count).map(|number| text::random_text(&mut Random::of_case(seed, number)));
     let mut tally = Tally::default();
     for input in limits.into_iter().chain(random) {
-        let seen = text::compared(program, &input).ok()?;
+        let seen = text::compared(program, &input)?;
         tally.note("program", seen.answer);
         if let Some(how) = seen.difference {
-            let shortest = text::shrunk(program, &input).ok()?;
+            let shortest = text::shrunk(program, &input)?;
             println!("program differs: {how}");
             println!("shortest input found: {:?}", String::from_utf8_lossy(&shortest));
             println!("run it again: comparison texts {program} {seed} {count}");
-            return Some(false);
+            return Ok(false);
         }
     }
     tally.print();
     println!("{whole} texts at the limits and {count} of seed {seed} were equal");
-    Some(none_missing(&tally.missing("program", &text::ANSWERS)))
+    Ok(none_missing(&tally.missing("program", &text::ANSWERS)))
 }

@@ -6,10 +6,10 @@ use crate::traffic::Traffic;
 use independent::shop::Shop;
 use independent::text::{answer, INPUT_MAX};
 use std::io::{self, Read, Write};
-use std::process::{Command, Stdio};
+use std::process::{Command, ExitStatus, Stdio};
 
-/// What a program writes for an input.
-pub fn said(program: &str, input: &[u8]) -> io::Result<Vec<u8>> {
+/// What a program writes for an input, and how it ends.
+fn said(program: &str, input: &[u8]) -> io::Result<(Vec<u8>, ExitStatus)> {
     let mut child = Command::new(program)
         .stdin(Stdio::piped())
         .stdout(Stdio::piped())
@@ -21,8 +21,7 @@ pub fn said(program: &str, input: &[u8]) -> io::Result<Vec<u8>> {
     drop(stdin);
     let mut output = Vec::new();
     stdout.read_to_end(&mut output)?;
-    child.wait()?;
-    Ok(output)
+    Ok((output, child.wait()?))
 }
 
 /// Every kind of answer that the texts must have come to. A budget and a log are the program's own, so they never fail.
@@ -38,9 +37,13 @@ pub const ANSWERS: [&str; 9] = [
     "refused 13",
 ];
 
-/// Runs the program and the independent one on an input.
+/// Runs the program and the independent one on an input. A program that does not end well differs, whatever it wrote.
 pub fn compared(program: &str, input: &[u8]) -> io::Result<Seen> {
-    let (proved, own) = (said(program, input)?, answer(input));
+    let ((proved, status), own) = (said(program, input)?, answer(input));
+    if !status.success() {
+        let difference = Some(format!("the program ended with {status}"));
+        return Ok(Seen { answer: kind(&proved), difference });
+    }
     let place = proved.iter().zip(&own).position(|(a, b)| a != b);
     let place = place.unwrap_or(proved.len().min(own.len()));
     let tail = |output: &[u8]| String::from_utf8_lossy(&output[place..output.len().min(place + 40)]).into_owned();
