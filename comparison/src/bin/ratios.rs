@@ -4,10 +4,11 @@
 //!     ratios time JOB          nanoseconds of a call, proved and independent: the best of several, taking turns
 //!     ratios once JOB WHO      the call once, by `proved` or `independent`, for whoever counts its instructions
 //!     ratios short JOB         the same by the proved code, with few events, for whoever measures its stack; the job
-//!                              `nothing` makes no call
+//!                              `nothing` makes no call, and `run_fields`, `class` and `answer` are jobs only here
 //!     ratios input             the largest text that the program is not to refuse
 
 use comparison::product;
+use independent::fields::Fields;
 use independent::message::Message;
 use independent::shop::{Shape, Shop, FREE};
 use independent::{run, search, withdrawal, worst};
@@ -61,9 +62,23 @@ impl Bench {
                 run::run(&shop(), &self.owners, &mut self.messages, &mut self.log, budget).map_or(0, |end| end.events)
             }
             "nothing" => m,
+            "run_fields" => {
+                let mut columns = self.columns();
+                let [stations, arrivals, relatives, lengths, sent] = &mut columns;
+                let fields = Fields { stations, arrivals, relatives, lengths, sent };
+                product::run_fields(&shop(), &self.owners, fields, &mut self.log, budget).events
+            }
+            "class" => product::class(t, m, black_box(9), 10).refusal,
+            "answer" => product::answer(largest_input().as_bytes(), &mut self.log) as u32,
             "withdraw" if proved => product::withdraw(&mut self.messages, 0).kept,
             _ => withdrawal::withdraw(&mut self.messages, 0).map_or(0, |counts| counts.kept),
         }
+    }
+
+    /// The messages field by field.
+    fn columns(&self) -> [Vec<u32>; 5] {
+        let of = |one: &Message| [one.station, one.arrival, one.relative, one.length, one.sent];
+        std::array::from_fn(|place| self.messages.iter().map(|one| of(one)[place]).collect())
     }
 
     /// Nanoseconds of one call. A withdrawal gets its whole list back first.
