@@ -3,9 +3,24 @@
  * The functions stand in libexports.a, which `rt staticlib exports` writes below target/staticlib/. They are proved:
  * each keeps docs/RULES.md for every input. No number and no length is out of bounds to them; what is bad is refused.
  *
- * Each answer begins with or holds a refusal's number, 0 for none. Where it is not 0, every other figure is 0 (false)
- * and every lent buffer is as it was. Where several refusals apply, the lowest number is told; a run asks 1 and 2 of
- * its time tree, then 1 and 2 of its static tree, then goes on.
+ * Each answer but that of mirvuttu_answer, which answers in text, begins with or holds a refusal's number, 0 for none.
+ * Where it is not 0, every other figure is 0 (false) and every lent buffer is as it was. Where several refusals apply,
+ * the lowest number is told; a run asks 1 and 2 of its time tree, then 1 and 2 of its static tree, then goes on.
+ *
+ *    1  m out of 2 to 16
+ *    2  t no power of m from m on, or over 1,024
+ *    3  a leaf list whose length is not t
+ *    4  a leaf byte that is neither 0 nor 1, in a search
+ *    5  k over t
+ *    6  no station, or more than 32; in a withdrawal, a station over 31
+ *    7  class width, offset or compression factor out of its range
+ *    8  an index table of another length than the static tree's leaves, with a bad entry, or without some station
+ *    9  too many messages, lists of unequal length, or a message with a number out of its range; in the class answer,
+ *       a deadline over 2,000,000,000
+ *   10  an event budget out of 1 to 1,000,000
+ *   11  a log with too little room
+ *   12  a reference time over 5,000,000,000,000, in the class answer
+ *   13  text that cannot be read: only in the text of mirvuttu_answer
  *
  * What a caller owes: a pointer with a count is that many items, aligned as C has it, that nobody else writes during
  * the call; two buffers of one call do not overlap; where a count is 0 the pointer is not followed, but it is not null.
@@ -105,8 +120,9 @@ struct mirvuttu_search_numbers {
     uint32_t collisions;
 };
 
-/* A bare search of the tree of m branches and t leaves, of which those of value 1 are active. The log needs room for
- * 16 * (m * t - 1) / (m - 1) bytes. Refuses 1, 2, 3, 4 and 11. */
+/* A bare search of the tree of m branches and t leaves, of which those of value 1 are active; leaves_count is t. The log
+ * needs room for 16 * (m * t - 1) / (m - 1) bytes and gets a row of 16 bytes for each visit (docs/RULES.md, section 4);
+ * the bytes behind the last row stay as they were. Refuses 1, 2, 3, 4 and 11. */
 struct mirvuttu_search_numbers mirvuttu_search(uint32_t m, uint32_t t, const uint8_t *leaves, size_t leaves_count,
                                                uint8_t *log, size_t log_room);
 
@@ -118,7 +134,7 @@ struct mirvuttu_count_numbers {
 /* The most silent and colliding slots that k active leaves can cost. Refuses 1, 2 and 5. */
 struct mirvuttu_count_numbers mirvuttu_worst_count(uint32_t m, uint32_t t, uint32_t k);
 
-/* Writes k active leaves that cost exactly that into a list of t bytes; answers a refusal's number.
+/* Writes k active leaves that cost exactly that into a list of t bytes, which leaves_count is; answers a refusal's number.
  * Refuses 1, 2, 3 and 5. */
 uint32_t mirvuttu_place(uint32_t m, uint32_t t, uint32_t k, uint8_t *leaves, size_t leaves_count);
 
