@@ -81,6 +81,8 @@ def main():
     )
     run(library, messages, len(messages))
     closed = library.mirvuttu_withdraw(messages, len(messages), 0)
+    if closed.refusal:
+        sys.exit(f"refused {closed.refusal}")
     print(f"till 0 closed: kept {closed.kept}, withdrawn {closed.withdrawn}")
     run(library, messages, closed.kept)
 

@@ -54,6 +54,10 @@ int main(void)
     if (run(messages, count) != 0)
         return 1;
     struct mirvuttu_withdrawal_numbers closed = mirvuttu_withdraw(messages, count, 0);
+    if (closed.refusal != 0) {
+        printf("refused %u\n", closed.refusal);
+        return 1;
+    }
     printf("till 0 closed: kept %u, withdrawn %u\n", closed.kept, closed.withdrawn);
     return run(messages, closed.kept);
 }

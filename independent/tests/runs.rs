@@ -1,4 +1,5 @@
-//! Runs whose every event is worked out by hand from docs/RULES.md.
+//! Runs worked out by hand from docs/RULES.md: every row of two of them, and of the others the closing figures, the slots
+//! of sending or the rows that a rule is about; then the refusals in their order.
 
 use independent::message::{Message, UNSENT};
 use independent::refusal::Refusal;
