@@ -31,15 +31,12 @@ impl Levels {
         let branches = tree.branches() as usize;
         let mut one = vec![1, 0];
         let mut most = Vec::new();
-        while one.len() - 1 < tree.leaves() {
-            let is_root = (one.len() - 1) * branches == tree.leaves();
-            let parts = parts(&one, if is_root { branches - 1 } else { branches });
+        while (one.len() - 1) * branches < tree.leaves() {
+            let parts = parts(&one, branches);
             one = of_parent(&parts[parts.len() - 1]);
             most.push(parts);
-            if is_root {
-                break;
-            }
         }
+        most.push(parts(&one, branches - 1));
         Levels { most }
     }
 
