@@ -42,6 +42,7 @@ pub fn limits() -> Vec<Traffic> {
         table_limits(),
         message_limits(),
         list_limits(),
+        long_runs(),
     ]
     .concat();
     let mut random = Random::of_case(0, 0);
@@ -118,4 +119,19 @@ fn list_limits() -> Vec<Traffic> {
         })
     });
     lists.into()
+}
+
+/// Runs that use up the largest budget: in the free phase, with an arrival that never comes; and in the time phase, where
+/// no compression brings far deadlines nearer.
+fn long_runs() -> Vec<Traffic> {
+    let free = with(|one| {
+        one.budget = 1_000_000;
+        one.messages.push(message_of(0, 1_000_000_000, 1_000_000_000, 1_000));
+    });
+    let time = with(|one| {
+        one.budget = 1_000_000;
+        one.shop.compression = 0;
+        one.messages = [0, 1].map(|station| message_of(station, 0, 1_000_000_000, 1)).into();
+    });
+    vec![free, time]
 }
