@@ -120,9 +120,9 @@ struct mirvuttu_search_numbers {
     uint32_t collisions;
 };
 
-/* A bare search of the tree of m branches and t leaves, of which those of value 1 are active; leaves_count is t. The log
- * needs room for 16 * (m * t - 1) / (m - 1) bytes and gets a row of 16 bytes for each visit (docs/RULES.md, section 4);
- * the bytes behind the last row stay as they were. Refuses 1, 2, 3, 4 and 11. */
+/* A bare search of the tree of m branches and t leaves, of which those of value 1 are active; leaves_count is t. The
+ * log needs room for 16 * (m * t - 1) / (m - 1) bytes and gets a row of 16 bytes for each visit (docs/RULES.md,
+ * section 4); the bytes behind the last row stay as they were. Refuses 1, 2, 3, 4 and 11. */
 struct mirvuttu_search_numbers mirvuttu_search(uint32_t m, uint32_t t, const uint8_t *leaves, size_t leaves_count,
                                                uint8_t *log, size_t log_room);
 
@@ -134,7 +134,7 @@ struct mirvuttu_count_numbers {
 /* The most silent and colliding slots that k active leaves can cost. Refuses 1, 2 and 5. */
 struct mirvuttu_count_numbers mirvuttu_worst_count(uint32_t m, uint32_t t, uint32_t k);
 
-/* Writes k active leaves that cost exactly that into a list of t bytes, which leaves_count is; answers a refusal's number.
+/* Writes k active leaves that cost exactly that into a list of t bytes; answers a refusal's number. leaves_count is t.
  * Refuses 1, 2, 3 and 5. */
 uint32_t mirvuttu_place(uint32_t m, uint32_t t, uint32_t k, uint8_t *leaves, size_t leaves_count);
 
