@@ -17,7 +17,7 @@ import sys
 TOKEN = re.compile(r"[^\s()\[\]{};,.:\"`|]+")
 HEAD = re.compile(r"(?m)^(?:abbrev |unfoldable |pub |private |record |data |ruleset )*([^\s:({\[]+)(?: [({].*)? :(?!:)")
 LOCAL = re.compile(r"[a-z][a-z0-9]+[A-Z][A-Za-z]*$")
-FIELD = re.compile(r"(?m)^  (?:pub )?([^\s:({]+) :")
+FIELD = re.compile(r"(?m)^ +(?:abbrev |pub )*([^\s:({\[]+)(?: [({][^:\n]*:.*)? :(?!:)")
 USE = re.compile(r"(?m)^(?:ghost )?use ([^\s{]+)(?:\{([^}]*)\})?")
 # A function that is no type and a type that is no function, by the rule; and what would be a variable's name.
 OTHER = {"in_tree": "InTreeAt", "X": "worst_of", "X-zero": "worst_of_zero", "X-one": "worst_of_one",

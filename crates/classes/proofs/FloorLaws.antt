@@ -38,10 +38,10 @@ keeps a c q r pc e h = quot_is q c r a (omega arith) (omega arith)
 
 -- one more, with no remainder: the next quotient
 next : (a c q : ℕ) → 0 < c → q * c + 0 ≡ suc a → suc (a / c) ≡ q
-next a c zero pc e = absurd (zero-case a (sym e))
+next a c zero pc e = absurd (zero_case a (sym e))
   where
-    zero-case : (a : ℕ) → suc a ≡ 0 * c + 0 → ⊥
-    zero-case a e = omega arith
+    zero_case : (a : ℕ) → suc a ≡ 0 * c + 0 → ⊥
+    zero_case a e = omega arith
 next a c (suc q) pc e = ap suc (quot_is q c (c - 1) a (omega arith) (omega (arith, suc-mul q c)))
 
 -- one less than −q

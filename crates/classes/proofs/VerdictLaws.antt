@@ -24,11 +24,11 @@ module _ (width offset : ℕ) where
   width_none h = fails _ (leb offset 1000000) (below_range 1 1000000 width h)
 
   module _ (some : 1 ≤ width) where
-    pub width-large : 1000000 < width → false ≡ class_fits width offset
-    width-large h = fails _ (leb offset 1000000) (above_range 1 1000000 width some h)
+    pub width_large : 1000000 < width → false ≡ class_fits width offset
+    width_large h = fails _ (leb offset 1000000) (above_range 1 1000000 width some h)
 
-    pub by-offset : width ≤ 1000000 → leb offset 1000000 ≡ class_fits width offset
-    by-offset narrow = on _ _ _ (in_range 1 1000000 width some narrow) refl
+    pub by_offset : width ≤ 1000000 → leb offset 1000000 ≡ class_fits width offset
+    by_offset narrow = on _ _ _ (in_range 1 1000000 width some narrow) refl
 
   -- what one may rely on that fits
   pub fitting : class_fits width offset ≡ true → (1 ≤ width) × (width ≤ 1000000) × (offset ≤ 1000000)
@@ -44,12 +44,12 @@ module _ (deadline offset reference width : ℕ) where
   unfit e = turned _ _ _ e
 
   module _ (fit : class_fits width offset ≡ true) where
-    pub deadline-large : 2000000000 < deadline → Refused Messages ≡ class_verdict deadline offset reference width
-    deadline-large h = passed _ _ _ _ fit (turned _ _ _ (lt-leb deadline 2000000000 h))
+    pub deadline_large : 2000000000 < deadline → Refused Messages ≡ class_verdict deadline offset reference width
+    deadline_large h = passed _ _ _ _ fit (turned _ _ _ (lt-leb deadline 2000000000 h))
 
     module _ (due : deadline ≤ 2000000000) where
-      pub reference-large : 5000000000000 < reference → Refused ReferenceTime ≡ class_verdict deadline offset reference width
-      reference-large h = passed _ _ _ _ fit (passed _ _ _ _ (le-leb deadline 2000000000 due) (turned _ _ _ (lt-leb reference 5000000000000 h)))
+      pub reference_large : 5000000000000 < reference → Refused ReferenceTime ≡ class_verdict deadline offset reference width
+      reference_large h = passed _ _ _ _ fit (passed _ _ _ _ (le-leb deadline 2000000000 due) (turned _ _ _ (lt-leb reference 5000000000000 h)))
 
       pub in_order : reference ≤ 5000000000000 → Granted ≡ class_verdict deadline offset reference width
       in_order h = passed _ _ _ _ fit (passed _ _ _ _ (le-leb deadline 2000000000 due) (passed _ _ _ _ (le-leb reference 5000000000000 h) refl))

@@ -2,6 +2,7 @@
 // (docs/RULES.md, section 9). A class is rounded down, so that late messages have negative classes.
 // `class_answer` is the public call, since tills show "late by n classes"; runs ask `is_below`.
 // Uses refusals.
+#![tactic(auto)]
 ghost use Rattle.std.specs.Prelude.{◌≡◌, ◌<◌, ◌≤◌};
 ghost use Rattle.std.proofs.Math.IntN.{sub_ℕ};
 ghost use Rattle.classes.specs.Class.{floor_of, class_of, class_below, class_fits};
@@ -11,7 +12,7 @@ ghost use Rattle.classes.specs.Promise.{ClassPromise};
 use refusals::{Refusal, Verdict};
 
 // The answer of `class_answer`.
-#[derive(Drop)]
+#[derive(Clone, Copy)]
 pub enum Class {
     Number(i64),
     Refused(Refusal),

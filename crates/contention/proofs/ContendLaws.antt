@@ -12,7 +12,7 @@ use lib.ListN.{length, get_or, length-append}
 use borrow.Author.Tests.{eq-eqb, ne_eqb, eqb-true, eqb-false}
 use Rattle.messages.specs.declared.Message.{Message}
 use Rattle.messages.specs.Message.{none, blank, deadline_of, waits, first_message}
-use Rattle.messages.proofs.ListLaws.{first-numbered, first-waits}
+use Rattle.messages.proofs.ListLaws.{first_numbered, first_waits}
 use Rattle.phases.specs.declared.Shop.{Shop}
 use Rattle.phases.specs.declared.Standing.{Standing}
 use Rattle.phases.specs.declared.Standing.TheVariants.{Static}
@@ -95,11 +95,11 @@ module _ (S : Shop) (table : List ℕ) (ms : List Message) (σ : State) (s : ℕ
     entry_first : (b : Bool) → r ≡ b → entry S table ms σ s i ≡ one_if b i
     entry_first b e = entry_by S table ms σ s i false b (ne_eqb i none some) (ap (enters S table σ s) (sym (due ∙ ap deadline_of at)) ∙ sym may ∙ e)
 
-    pub counted-in : r ≡ true → record { count = t.count + 1; message = i } ≡ counted t (entry S table ms σ s (first_message ms σ.slot s))
-    counted-in e = sym (counted_by (i ∷ []) (entry_first true e))
+    pub counted_in : r ≡ true → record { count = t.count + 1; message = i } ≡ counted t (entry S table ms σ s (first_message ms σ.slot s))
+    counted_in e = sym (counted_by (i ∷ []) (entry_first true e))
 
-    pub counted-out : r ≡ false → t ≡ counted t (entry S table ms σ s (first_message ms σ.slot s))
-    counted-out e = sym (counted_by [] (entry_first false e))
+    pub counted_out : r ≡ false → t ≡ counted t (entry S table ms σ s (first_message ms σ.slot s))
+    counted_out e = sym (counted_by [] (entry_first false e))
 
 -- ---- all stations
 
@@ -212,8 +212,8 @@ module _ (S : Shop) (table : List ℕ) (ms : List Message) (σ : State) where
   pub entering_waits : (n i : ℕ) (e : Entering n i) → Waiting ms σ.slot i × ((get_or ms i blank).station ≡ e.station)
   entering_waits n i e =
       let some : first_message ms σ.slot e.station ≡ none → ⊥ = λ q. e.some (e.first ∙ q) in
-      let w = first-waits ms σ.slot e.station some in
-      rw e.first ((first-numbered ms σ.slot e.station some, w.1), w.0)
+      let w = first_waits ms σ.slot e.station some in
+      rw e.first ((first_numbered ms σ.slot e.station some, w.1), w.0)
 
   pub contenders_messages : 0 < length (contenders S table ms σ) → Waiting ms σ.slot (last_of (contenders S table ms σ))
   contenders_messages h = (entering_waits S.stations (last_of (contenders S table ms σ)) (contenders_enter h)).0

@@ -51,8 +51,8 @@ module _ (S : Shop) (table : List ℕ) (σ : State) (s d : ℕ) where
   enters_time a w r e f = f ∙ sym (in_phase (Time a w) e)
 
   module _ (a w p : ℕ) (o : Bool) (e : σ.standing ≡ Static a w p) (f : o ≡ owns table s a w) where
-    pub enters-owner : (r : Bool) → o ≡ true → r ≡ in_class S σ.reference d (p + 1) → r ≡ enters S table σ s d
-    enters-owner r t g = g ∙ sym (in_phase (Static a w p) e ∙ ap (λ (b : Bool). b && in_class S σ.reference d (p + 1)) (sym f ∙ t))
+    pub enters_owner : (r : Bool) → o ≡ true → r ≡ in_class S σ.reference d (p + 1) → r ≡ enters S table σ s d
+    enters_owner r t g = g ∙ sym (in_phase (Static a w p) e ∙ ap (λ (b : Bool). b && in_class S σ.reference d (p + 1)) (sym f ∙ t))
 
-    pub enters-stranger : o ≡ false → false ≡ enters S table σ s d
-    enters-stranger t = sym (in_phase (Static a w p) e ∙ ap (λ (b : Bool). b && in_class S σ.reference d (p + 1)) (sym f ∙ t))
+    pub enters_stranger : o ≡ false → false ≡ enters S table σ s d
+    enters_stranger t = sym (in_phase (Static a w p) e ∙ ap (λ (b : Bool). b && in_class S σ.reference d (p + 1)) (sym f ∙ t))

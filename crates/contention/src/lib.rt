@@ -1,6 +1,7 @@
 // Contention: which stations send in a slot (docs/RULES.md, section 10). A station contends with its first message,
 // taken afresh in each slot, where the phase lets it enter.
 // Uses classes, messages and phases.
+#![tactic(auto)]
 ghost use Rattle.std.specs.Prelude.{◌≡◌, ◌+◌, ◌≤◌, ◌<◌, length};
 ghost use Rattle.messages.specs.Message.{first_message};
 ghost use Rattle.messages.specs.Lists.{listed, SameLength, TimedList};
@@ -10,7 +11,7 @@ ghost use Rattle.contention.specs.Work.{Open};
 use phases::{Shop, Standing, State};
 
 // How many stations contend, and the message of the last of them.
-#[derive(Drop)]
+#[derive(Clone, Copy)]
 pub struct Tally {
     pub count: u32,
     pub message: u32,

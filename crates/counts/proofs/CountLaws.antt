@@ -181,17 +181,17 @@ module _ (m t : ℕ) (tree : Tree m t) (more : 2 ≤ t) (small : List ℕ) (held
 
   module _ (all : List ℕ) (parted : up_to (m * (t / m)) all ≡ parts (up_to (t / m) small) m) where
     -- with the root they are the counts of the tree
-    rooted-worst : (n : ℕ) → t / m ≡ m ^ n → rooted (up_to t all) ≡ worst m (suc n)
-    rooted-worst n w =
+    rooted_worst : (n : ℕ) → t / m ≡ m ^ n → rooted (up_to t all) ≡ worst m (suc n)
+    rooted_worst n w =
         ap rooted (ap (λ (x : ℕ). take (x + 1) all) (sym (under m t tree more).whole) ∙ parted ∙ ap (λ (l : List ℕ). parts l m) (held n w))
 
-    pub root-fits : Fits (rooted (up_to t all))
-    root-fits =
+    pub root_fits : Fits (rooted (up_to t all))
+    root_fits =
         let B = under m t tree more in
         let n : ℕ = B.under in
-        subst Fits (sym (rooted-worst n B.width)) (worst_fits m (suc n) tree.branches (omega (arith, power m t tree more n B.width, tree.few)))
+        subst Fits (sym (rooted_worst n B.width)) (worst_fits m (suc n) tree.branches (omega (arith, power m t tree more n B.width, tree.few)))
 
     pub holds_next : (out : List ℕ) → up_to t out ≡ rooted (up_to t all) → Holds m t out
     holds_next out e n f =
         let B : Below m n t = below m n t tree.branches more f in
-        e ∙ rooted-worst B.under B.width ∙ ap (λ (x : ℕ). worst m x) (sym B.height)
+        e ∙ rooted_worst B.under B.width ∙ ap (λ (x : ℕ). worst m x) (sym B.height)

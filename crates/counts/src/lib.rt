@@ -2,6 +2,7 @@
 // It is counted for trees m times smaller first: the counts of m of them together, and the root's slot.
 // The tills' own tree, four branches and 256 leaves, stands as a table.
 // Uses refusals and trees.
+#![tactic(auto)]
 mod tills; // tills.rt: the table
 
 ghost use Rattle.std.specs.Prelude.{◌≡◌, ◌+◌, ◌*◌, ◌-◌, ◌/◌, ◌≤◌, ◌<◌, min, length, get_or};
@@ -15,7 +16,7 @@ ghost use Rattle.counts.specs.Promise.{CountPromise};
 use refusals::{Refusal, Verdict};
 
 // The answer to a question for a worst count.
-#[derive(Drop)]
+#[derive(Clone, Copy)]
 pub enum Count {
     Worst(u32),
     Refused(Refusal),

@@ -1,5 +1,6 @@
 // The program (docs/RULES.md, section 12): standard input to standard output. What it decides is in `lines::answer`.
 // Uses lines.
+#![tactic(auto)]
 ghost use Rattle.std.specs.Prelude.{◌≡◌, length};
 
 const STDIN: i32 = 0;

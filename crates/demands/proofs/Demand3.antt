@@ -136,10 +136,10 @@ module _ (S : Shop) (table owners : List ℕ) (one : OneIndexEach S owners) (fro
         quiet.1))
         q
 
-    from-leaf : (k s : ℕ) → 2 ≤ s → length (contenders S table ms W.state) ≡ s
+    from_leaf : (k s : ℕ) → 2 ≤ s → length (contenders S table ms W.state) ≡ s
         → Quiet ms slot (search_from (run S table k W).0) → StaticSearch S table owners W (run S table k W).0 s
-    from-leaf zero s more contend q = none_written W s more contend
-    from-leaf (suc k) s more contend q = go (all_sent ms) refl
+    from_leaf zero s more contend q = none_written W s more contend
+    from_leaf (suc k) s more contend q = go (all_sent ms) refl
       where
         go : (b : Bool) → all_sent ms ≡ b → StaticSearch S table owners W (run S table (suc k) W).0 s
         go true e = rw (e, run) (none_written W s more contend)
@@ -155,7 +155,7 @@ module _ (S : Shop) (table owners : List ℕ) (one : OneIndexEach S owners) (fro
       → Quiet W.messages W.state.slot (search_from (run S table k (at φ)).0)
       → StaticSearch S table owners (at φ) (run S table k (at φ)).0 s)
       (sym c.stands)
-      (from-leaf W.state.slot W.state.reference W.state.sent c.leaf W.messages k s c.collide)
+      (from_leaf W.state.slot W.state.reference W.state.sent c.leaf W.messages k s c.collide)
       c.contend q
     where
       at : Standing → World

@@ -28,8 +28,8 @@ use Rattle.events.proofs.EventLaws.{event_by}
 use Rattle.wire.specs.Run.{World, world_after, run}
 use Rattle.demands.specs.Claims.{if_static, static_rows, Quiet, contending, static_height, BeginsLike}
 use Rattle.demands.proofs.TreeLaws.{run_outside}
-use Rattle.demands.proofs.SettledLaws.{Collided, Settled, settled_later, settled_behind, settled-busy}
-use Rattle.demands.proofs.SettledLaws.{contenders-settled}
+use Rattle.demands.proofs.SettledLaws.{Collided, Settled, settled_later, settled_behind, settled_busy}
+use Rattle.demands.proofs.SettledLaws.{contenders_settled}
 
 -- the static rows at the front go like the others; where a row follows them, they are as many
 pub record Along (rows others : List Row) : Type 0 where
@@ -154,33 +154,33 @@ module _ {S : Shop} {table owners : List ℕ} {was : World} {fit : ℕ → ℕ �
     same : (used b v : ℕ) → Settled c a (searching (slot + used) some b v ms)
     same used b v = settled_later c a (searching slot some a w ms) _ refl (omega arith) settled
 
-    by-leaves : (l : List ℕ) → length (contenders S table ms σ) ≡ length l
+    by_leaves : (l : List ℕ) → length (contenders S table ms σ) ≡ length l
         → (i used : ℕ) → i ≡ last_of (contenders S table ms σ)
         → Calm (rows_of (event_on S ms σ (channel_of (length l)) i used))
         → Along (rows_of (event_on S ms σ (channel_of (length l)) i used)) (visits_of l)
-    by-leaves [] e i used is q =
+    by_leaves [] e i used is q =
         along_cons _ _ _ _ refl refl refl refl
         (onward k j ih (slot + used) some (a + w) ms (t + 1) (settled_behind c a w _ (same used (a + w) 0)) q.1)
-    by-leaves (x ∷ []) e i used is q =
+    by_leaves (x ∷ []) e i used is q =
         along_cons _ _ _ _ refl refl refl refl
         (onward k j ih (slot + used) true (a + w) (set ms i (sent_at slot (get_or ms i blank))) (t + 1)
-        (settled-busy c a w (omega (arith, long)) (searching slot some a w ms) settled (static a w) _ i slot
+        (settled_busy c a w (omega (arith, long)) (searching slot some a w ms) settled (static a w) _ i slot
         (rw is (contenders_enter S table ms σ (omega arith))) refl (omega arith))
         q.1)
-    by-leaves (x ∷ y ∷ l) e i used is q =
+    by_leaves (x ∷ y ∷ l) e i used is q =
         along_cons _ _ _ _ refl refl refl refl
         (ih (slot + used) some a (w / m) ms (t + 1) (omega (arith, div-le_self w S.index.branches))
         (same used a (w / m)) q.1)
 
-    event-along : Calm (rows_of (event S table ms σ))
+    event_along : Calm (rows_of (event S table ms σ))
         → Along (rows_of (event S table ms σ)) (visits_of (active_in (contending S table owners was) a w))
-    event-along q =
+    event_along q =
         let l : List ℕ = active_in (contending S table owners was) a w in
         let e : length (contenders S table ms σ) ≡ length l =
-        contenders-settled c a w (omega (arith, long)) (searching slot some a w ms) settled (static a w) q.0 in
+        contenders_settled c a w (omega (arith, long)) (searching slot some a w ms) settled (static a w) q.0 in
         subst (λ (E : Event). Calm (rows_of E) → Along (rows_of E) (visits_of l))
         (sym (event_by S table ms σ (length l) e))
-        (by-leaves l e _ _ refl) q
+        (by_leaves l e _ _ refl) q
 
   -- AS FAR AS THE RUN GOES, it goes along the bare search's walk over the wire
   pub follow : (k j : ℕ) → k ≤ j → Follows k j
@@ -191,4 +191,4 @@ module _ {S : Shop} {table owners : List ℕ} {was : World} {fit : ℕ → ℕ �
       go : Follows k j → (b : Bool) → all_sent ms ≡ b
           → Along (run S table (suc k) (searching slot some a w ms)).0 (visits (suc j) a w t)
       go ih true e = rw (e, run) (along_none _)
-      go ih false e = rw (e, run) (event-along k j ih slot some a w ms t room settled (rw (e, run) at calm))
+      go ih false e = rw (e, run) (event_along k j ih slot some a w ms t room settled (rw (e, run) at calm))

@@ -15,7 +15,7 @@ use Rattle.trees.proofs.LeafLaws.{part, length_active}
 use Rattle.messages.specs.declared.Message.{Message}
 use Rattle.messages.specs.Message.{blank, deadline_of, first_message, sent_at}
 use Rattle.messages.proofs.OrderLaws.{candidate, this_station, other_station}
-use Rattle.messages.proofs.KeptLaws.{bare, bare_set, bare_station, bare_deadline, waits_kept, first-kept}
+use Rattle.messages.proofs.KeptLaws.{bare, bare_set, bare_station, bare_deadline, waits_kept, first_kept}
 use Rattle.phases.specs.declared.Shop.{Shop}
 use Rattle.contention.specs.Contenders.{owns, enters, entry, contenders}
 use Rattle.contention.proofs.ContendLaws.{adds, Entering, entering_waits, contenders_number}
@@ -77,9 +77,9 @@ module _ {S : Shop} {table owners : List ℕ} {fit : ℕ → ℕ → Bool} {was 
       (static : (s d : ℕ) → enters S table now.state s d ≡ (owns table s a w && fit s d)) where
     module _ (quiet : NoneArrives was.messages was.state.slot now.state.slot) where
       -- a message of a station with an index ahead waits as it did
-      waits-settled : (s j : ℕ) → 0 < times_in (drop a owners) s → j < length was.messages
+      waits_settled : (s j : ℕ) → 0 < times_in (drop a owners) s → j < length was.messages
           → candidate now.messages now.state.slot s j ≡ candidate was.messages was.state.slot s j
-      waits-settled s j h l = go (eqb (message_in was j).station s) refl
+      waits_settled s j h l = go (eqb (message_in was j).station s) refl
         where
           still : (message_in now j).station ≡ (message_in was j).station
           still = bare_station was.messages now.messages settled.kept j
@@ -98,58 +98,58 @@ module _ {S : Shop} {table owners : List ℕ} {fit : ℕ → ℕ → Bool} {was 
               ∙ sym (other_station (message_in was j) was.state.slot s other)
 
       -- so the station's first message is the same
-      first-settled : (s : ℕ) → 0 < times_in (drop a owners) s → first_in now s ≡ first_in was s
-      first-settled s h =
-          first-kept was.messages now.messages settled.kept was.state.slot now.state.slot s
-          (λ j l. waits-settled s j h l)
+      first_settled : (s : ℕ) → 0 < times_in (drop a owners) s → first_in now s ≡ first_in was s
+      first_settled s h =
+          first_kept was.messages now.messages settled.kept was.state.slot now.state.slot s
+          (λ j l. waits_settled s j h l)
 
       -- may station s enter with message i, by how many indices of the subtree it owns
-      enters-settled : (s x i : ℕ) → times_in (part owners a w) s ≡ x
+      enters_settled : (s x i : ℕ) → times_in (part owners a w) s ≡ x
           → enters S table now.state s (deadline_in now i) ≡ (ltb 0 x && fit s (deadline_in was i))
-      enters-settled s x i e =
+      enters_settled s x i e =
           static s (deadline_in now i)
           ∙ ap (λ (b : Bool). b && fit s (deadline_in now i)) (c.front s a w inside ∙ ap (ltb 0) e)
           ∙ ap (λ (d : ℕ). ltb 0 x && fit s d) (bare_deadline was.messages now.messages settled.kept i)
 
       -- what a station adds to the contenders
-      adds-settled : (s : ℕ) → s < S.stations
+      adds_settled : (s : ℕ) → s < S.stations
           → length (adds S table now.messages now.state s)
           ≡ times_in (part owners a w) s * contends S table was s
-      adds-settled s h = go (times_in (part owners a w) s) refl
+      adds_settled s h = go (times_in (part owners a w) s) refl
         where
           go : (x : ℕ) → times_in (part owners a w) s ≡ x
               → length (adds S table now.messages now.state s) ≡ x * contends S table was s
           go zero e =
               let i : ℕ = first_in now s in
-              ap length (entry_barred S table now.messages now.state s i (enters-settled s 0 i e))
+              ap length (entry_barred S table now.messages now.state s i (enters_settled s 0 i e))
               ∙ sym (zero-mul (contends S table was s))
           go (suc zero) e =
               let i : ℕ = first_in was s in
               ap (λ (k : ℕ). length (entry S table now.messages now.state s k))
-              (first-settled s (omega (arith, ahead_split owners s a w)))
+              (first_settled s (omega (arith, ahead_split owners s a w)))
               ∙ ap length (entry_alike S table was.messages now.messages was.state now.state s i
-              (enters-settled s 1 i e ∙ sym (c.free s (deadline_in was i))))
+              (enters_settled s 1 i e ∙ sym (c.free s (deadline_in was i))))
               ∙ sym (one-mul (contends S table was s))
           go (suc (suc x)) e = absurd (omega (arith, ahead_split owners s a w, ahead_few s a h))
 
       -- AS MANY CONTEND as leaves are active in the subtree
-      pub contenders-settled : length (contenders S table now.messages now.state)
+      pub contenders_settled : length (contenders S table now.messages now.state)
           ≡ length (active_in (contending S table owners was) a w)
-      contenders-settled =
+      contenders_settled =
           let f : ℕ → ℕ = contends S table was in
           contenders_number S table now.messages now.state
           ∙ sum_alike (λ s. length (adds S table now.messages now.state s))
-          (λ s. times_in (part owners a w) s * f s) S.stations adds-settled
+          (λ s. times_in (part owners a w) s * f s) S.stations adds_settled
           ∙ sym (ones_owners S.stations f (λ s. entry_few S table was.messages was.state s (first_in was s))
           (part owners a w))
           ∙ ap ones (sym (part_map (active_by S.stations f) owners a w))
           ∙ sym (length_active a (part (contending S table owners was) a w))
 
     -- one was sent, and its station has no index behind the subtree
-    pub settled-busy : (next : World) (i slot : ℕ) → Entering S table now.messages now.state S.stations i
+    pub settled_busy : (next : World) (i slot : ℕ) → Entering S table now.messages now.state S.stations i
         → next.messages ≡ set now.messages i (sent_at slot (message_in now i))
         → now.state.slot ≤ next.state.slot → Settled (a + w) next
-    settled-busy next i slot sends e l =
+    settled_busy next i slot sends e l =
         let s : ℕ = sends.station in
         let waiting = entering_waits S table now.messages now.state S.stations i sends in
         let d : ℕ = deadline_in now i in

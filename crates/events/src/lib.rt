@@ -1,6 +1,7 @@
 // Events: what one slot of the wire comes to (docs/RULES.md, section 10): the channel's state by the number of
 // contenders, the row, the mark on a message that is sent, and the state after it. A run writes the row.
 // Uses rows, messages, phases and contention.
+#![tactic(auto)]
 ghost use Rattle.std.specs.Prelude.{◌≡◌, ◌≤◌};
 ghost use Rattle.events.specs.Event.{channel_of, used_by, message_by, row_of};
 ghost use Rattle.events.specs.Work.{marked_by, RowReady, StepReady, Stepped, SentInside};
@@ -10,7 +11,7 @@ use phases::{Shop, Standing, State};
 use rows::{Channel, Phase, Row};
 
 // An event: the state after it, and its row.
-#[derive(Drop)]
+#[derive(Clone, Copy)]
 pub struct Step {
     pub state: State,
     pub row: Row,

@@ -1,6 +1,7 @@
 // Exports: the public calls for C, Rust and scripts (include/mirvuttu.h says how they are called).
 // Each makes the call and gives its answer as numbers.
 // Uses the crates of the calls, figures for the numbers, and messages and phases for what is lent.
+#![tactic(auto)]
 ghost use Rattle.lines.specs.Promise.{AnswerPromise};
 ghost use Rattle.exports.specs.Promise.{
   SearchExported,

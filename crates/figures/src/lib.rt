@@ -1,6 +1,7 @@
 // Figures: the answers of the calls as structs of numbers, as they cross to C: a refusal's number, 0 for none, and the
 // figures, 0 where it is refused.
 // Uses refusals, searches, counts, placements, classes, wire and withdrawals for the answers.
+#![tactic(auto)]
 ghost use Rattle.std.specs.Prelude.{◌≡◌};
 ghost use Rattle.searches.specs.Answer.{figures as figures_of_search};
 ghost use Rattle.counts.specs.Answer.{figures as figures_of_count};
@@ -19,7 +20,7 @@ use withdrawals::Withdrawal;
 
 // The answer of a bare search.
 #[repr(C)]
-#[derive(Drop)]
+#[derive(Clone, Copy)]
 pub struct SearchNumbers {
     pub refusal: u32,
     pub rows: u32,
@@ -29,7 +30,7 @@ pub struct SearchNumbers {
 
 // The answer to a question for a worst count.
 #[repr(C)]
-#[derive(Drop)]
+#[derive(Clone, Copy)]
 pub struct CountNumbers {
     pub refusal: u32,
     pub slots: u32,
@@ -37,7 +38,7 @@ pub struct CountNumbers {
 
 // The answer to a question for a class.
 #[repr(C)]
-#[derive(Drop)]
+#[derive(Clone, Copy)]
 pub struct ClassNumbers {
     pub class: i64,
     pub refusal: u32,
@@ -45,7 +46,7 @@ pub struct ClassNumbers {
 
 // The answer of a run.
 #[repr(C)]
-#[derive(Drop)]
+#[derive(Clone, Copy)]
 pub struct RunNumbers {
     pub refusal: u32,
     pub done: bool,
@@ -57,7 +58,7 @@ pub struct RunNumbers {
 
 // The answer of a withdrawal.
 #[repr(C)]
-#[derive(Drop)]
+#[derive(Clone, Copy)]
 pub struct WithdrawalNumbers {
     pub refusal: u32,
     pub kept: u32,

@@ -83,11 +83,11 @@ module _ (S : Shop) (owners : List ℕ) where
   table_length f = fails _ _ (ne_eqb _ _ f)
 
   module _ (e : length owners ≡ S.index.leaves) where
-    pub table-entry : are_owners S.stations owners ≡ false → false ≡ table_fits S owners
-    table-entry f = on _ _ _ (eq-eqb _ _ e) (fails _ _ f)
+    pub table_entry : are_owners S.stations owners ≡ false → false ≡ table_fits S owners
+    table_entry f = on _ _ _ (eq-eqb _ _ e) (fails _ _ f)
 
-    pub table-stations : are_owners S.stations owners ≡ true → all_own owners S.stations ≡ table_fits S owners
-    table-stations f = on _ _ _ (eq-eqb _ _ e) (on _ _ _ f refl)
+    pub table_stations : are_owners S.stations owners ≡ true → all_own owners S.stations ≡ table_fits S owners
+    table_stations f = on _ _ _ (eq-eqb _ _ e) (on _ _ _ f refl)
 
 -- ---- one message
 
@@ -96,19 +96,19 @@ module _ (z : ℕ) (m : Message) where
   no_station h = fails _ _ (le-ltb m.station z h)
 
   module _ (whose : m.station < z) where
-    pub arrival-large : 1000000000 < m.arrival → false ≡ message_fits z m
-    arrival-large h = on _ _ _ (lt-ltb m.station z whose) (fails _ _ (lt-leb m.arrival 1000000000 h))
+    pub arrival_large : 1000000000 < m.arrival → false ≡ message_fits z m
+    arrival_large h = on _ _ _ (lt-ltb m.station z whose) (fails _ _ (lt-leb m.arrival 1000000000 h))
 
     module _ (arrives : m.arrival ≤ 1000000000) where
       timed : (t : Bool) → t ≡ (within 1 1000000000 m.relative && within 1 1000 m.length) → t ≡ message_fits z m
       timed t e = on _ _ _ (lt-ltb m.station z whose) (on _ _ _ (le-leb m.arrival 1000000000 arrives) e)
 
-      pub relative-none : m.relative < 1 → false ≡ message_fits z m
-      relative-none h = timed _ (fails _ _ (below_range 1 1000000000 m.relative h))
+      pub relative_none : m.relative < 1 → false ≡ message_fits z m
+      relative_none h = timed _ (fails _ _ (below_range 1 1000000000 m.relative h))
 
       module _ (some : 1 ≤ m.relative) where
-        pub relative-large : 1000000000 < m.relative → false ≡ message_fits z m
-        relative-large h = timed _ (fails _ _ (above_range 1 1000000000 m.relative some h))
+        pub relative_large : 1000000000 < m.relative → false ≡ message_fits z m
+        relative_large h = timed _ (fails _ _ (above_range 1 1000000000 m.relative some h))
 
         module _ (lasts : m.relative ≤ 1000000000) where
           pub length_none : m.length < 1 → false ≡ message_fits z m
@@ -136,15 +136,15 @@ module _ (stations arrivals relatives lengths sent : List ℕ) where
   arrivals_differ f = fails _ _ (ne_eqb _ _ f)
 
   module _ (a : length arrivals ≡ length stations) where
-    pub relatives-differ : (length relatives ≡ length stations → ⊥) → false ≡ same_lengths stations arrivals relatives lengths sent
-    relatives-differ f = on _ _ _ (eq-eqb _ _ a) (fails _ _ (ne_eqb _ _ f))
+    pub relatives_differ : (length relatives ≡ length stations → ⊥) → false ≡ same_lengths stations arrivals relatives lengths sent
+    relatives_differ f = on _ _ _ (eq-eqb _ _ a) (fails _ _ (ne_eqb _ _ f))
 
     module _ (r : length relatives ≡ length stations) where
       pub lengths_differ : (length lengths ≡ length stations → ⊥) → false ≡ same_lengths stations arrivals relatives lengths sent
       lengths_differ f = on _ _ _ (eq-eqb _ _ a) (on _ _ _ (eq-eqb _ _ r) (fails _ _ (ne_eqb _ _ f)))
 
-      pub by-sent : length lengths ≡ length stations → eqb (length sent) (length stations) ≡ same_lengths stations arrivals relatives lengths sent
-      by-sent l = on _ _ _ (eq-eqb _ _ a) (on _ _ _ (eq-eqb _ _ r) (on _ _ _ (eq-eqb _ _ l) refl))
+      pub by_sent : length lengths ≡ length stations → eqb (length sent) (length stations) ≡ same_lengths stations arrivals relatives lengths sent
+      by_sent l = on _ _ _ (eq-eqb _ _ a) (on _ _ _ (eq-eqb _ _ r) (on _ _ _ (eq-eqb _ _ l) refl))
 
 -- slices of one length that is within the limit
 pub same_length : (stations arrivals relatives lengths sent : List ℕ) → same_lengths stations arrivals relatives lengths sent ≡ true → length stations ≤ 512
@@ -184,5 +184,5 @@ module _ (z : ℕ) (stations arrivals relatives lengths sent : List ℕ) (b : Bo
       pub one_length : SameLength stations arrivals relatives lengths sent
       one_length = same_length stations arrivals relatives lengths sent whole few
 
-      pub by-messages : (t : Bool) → t ≡ all_fit z ms → t ≡ fit
-      by-messages t f = on _ _ _ whole (on _ _ _ (le-leb (length ms) 512 (omega (arith, length_listed stations arrivals relatives lengths sent))) f)
+      pub by_messages : (t : Bool) → t ≡ all_fit z ms → t ≡ fit
+      by_messages t f = on _ _ _ whole (on _ _ _ (le-leb (length ms) 512 (omega (arith, length_listed stations arrivals relatives lengths sent))) f)

@@ -31,19 +31,19 @@ module _ (S : Shop) (owners : List ℕ) where
   no_stations h = turned _ _ _ (below_range 1 32 S.stations h)
 
   module _ (some : 1 ≤ S.stations) where
-    pub many-stations : 32 < S.stations → Refused Stations ≡ shop_verdict S owners
-    many-stations h = turned _ _ _ (above_range 1 32 S.stations some h)
+    pub many_stations : 32 < S.stations → Refused Stations ≡ shop_verdict S owners
+    many_stations h = turned _ _ _ (above_range 1 32 S.stations some h)
 
     module _ (few : S.stations ≤ 32) where
-      pub bad-numbers : class_numbers S ≡ false → Refused ClassNumbers ≡ shop_verdict S owners
-      bad-numbers e = passed _ _ _ _ (in_range 1 32 S.stations some few) (turned _ _ _ e)
+      pub bad_numbers : class_numbers S ≡ false → Refused ClassNumbers ≡ shop_verdict S owners
+      bad_numbers e = passed _ _ _ _ (in_range 1 32 S.stations some few) (turned _ _ _ e)
 
       module _ (numbers : class_numbers S ≡ true) where
-        pub bad-table : table_fits S owners ≡ false → Refused IndexTable ≡ shop_verdict S owners
-        bad-table e = passed _ _ _ _ (in_range 1 32 S.stations some few) (passed _ _ _ _ numbers (turned _ _ _ e))
+        pub bad_table : table_fits S owners ≡ false → Refused IndexTable ≡ shop_verdict S owners
+        bad_table e = passed _ _ _ _ (in_range 1 32 S.stations some few) (passed _ _ _ _ numbers (turned _ _ _ e))
 
-        pub good-shop : table_fits S owners ≡ true → Granted ≡ shop_verdict S owners
-        good-shop e = passed _ _ _ _ (in_range 1 32 S.stations some few) (passed _ _ _ _ numbers (passed _ _ _ _ e refl))
+        pub good_shop : table_fits S owners ≡ true → Granted ≡ shop_verdict S owners
+        good_shop e = passed _ _ _ _ (in_range 1 32 S.stations some few) (passed _ _ _ _ numbers (passed _ _ _ _ e refl))
 
 -- ---- budget and log
 
@@ -52,15 +52,15 @@ module _ (budget room : ℕ) where
   no_budget h = turned _ _ _ (below_range 1 1000000 budget h)
 
   module _ (some : 1 ≤ budget) where
-    pub large-budget : 1000000 < budget → Refused Budget ≡ budget_verdict budget room
-    large-budget h = turned _ _ _ (above_range 1 1000000 budget some h)
+    pub large_budget : 1000000 < budget → Refused Budget ≡ budget_verdict budget room
+    large_budget h = turned _ _ _ (above_range 1 1000000 budget some h)
 
     module _ (few : budget ≤ 1000000) where
       pub no_room : room < 16 * budget → Refused LogRoom ≡ budget_verdict budget room
       no_room h = passed _ _ _ _ (in_range 1 1000000 budget some few) (turned _ _ _ (lt-leb (16 * budget) room h))
 
-      pub room-enough : 16 * budget ≤ room → Granted ≡ budget_verdict budget room
-      room-enough h = passed _ _ _ _ (in_range 1 1000000 budget some few) (passed _ _ _ _ (le-leb (16 * budget) room h) refl)
+      pub room_enough : 16 * budget ≤ room → Granted ≡ budget_verdict budget room
+      room_enough h = passed _ _ _ _ (in_range 1 1000000 budget some few) (passed _ _ _ _ (le-leb (16 * budget) room h) refl)
 
 -- ---- the run; b is what `messages_fit` answered
 
@@ -75,16 +75,16 @@ module _ (S : Shop) (owners stations arrivals relatives lengths sent : List ℕ)
   no_time_tree r e = stopped r _ _ e
 
   module _ (time : Granted ≡ tree_verdict S.time.branches S.time.leaves) where
-    pub no-index-tree : (r : Refusal) → Refused r ≡ tree_verdict S.index.branches S.index.leaves → Refused r ≡ verdict
-    no-index-tree r e = onward _ _ _ time (stopped r _ _ e)
+    pub no_index_tree : (r : Refusal) → Refused r ≡ tree_verdict S.index.branches S.index.leaves → Refused r ≡ verdict
+    no_index_tree r e = onward _ _ _ time (stopped r _ _ e)
 
     module _ (index : Granted ≡ tree_verdict S.index.branches S.index.leaves) where
-      pub no-shop : (r : Refusal) → Refused r ≡ shop_verdict S owners → Refused r ≡ verdict
-      no-shop r e = onward _ _ _ time (onward _ _ _ index (stopped r _ _ e))
+      pub no_shop : (r : Refusal) → Refused r ≡ shop_verdict S owners → Refused r ≡ verdict
+      no_shop r e = onward _ _ _ time (onward _ _ _ index (stopped r _ _ e))
 
       module _ (shop : Granted ≡ shop_verdict S owners) (b : Bool) (told : b ≡ (same_lengths stations arrivals relatives lengths sent && messages_fit S.stations ms)) where
         pub no_messages : not b ≡ true → Refused Messages ≡ verdict
         no_messages e = onward _ _ _ time (onward _ _ _ index (onward _ _ _ shop (turned _ _ _ (sym told ∙ not-true b e))))
 
-        pub by-budget : (v : Verdict) → not b ≡ false → v ≡ budget_verdict budget room → v ≡ verdict
-        by-budget v e f = onward _ _ _ time (onward _ _ _ index (onward _ _ _ shop (passed _ _ _ _ (sym told ∙ not-false b e) f)))
+        pub by_budget : (v : Verdict) → not b ≡ false → v ≡ budget_verdict budget room → v ≡ verdict
+        by_budget v e f = onward _ _ _ time (onward _ _ _ index (onward _ _ _ shop (passed _ _ _ _ (sym told ∙ not-false b e) f)))

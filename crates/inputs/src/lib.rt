@@ -1,6 +1,7 @@
 // Inputs: what a run asks of its numbers and lists, checked in the order of the refusals, and the index table
 // that it works with (docs/RULES.md, sections 2 and 10).
 // Uses refusals, rows, trees, classes, messages and phases.
+#![tactic(auto)]
 ghost use Rattle.std.specs.Prelude.{◌≡◌, ◌&&◌, ◌≤◌, length};
 ghost use Rattle.messages.specs.Lists.{listed, SameLength};
 ghost use Rattle.inputs.specs.Inputs.{class_numbers, is_owner, are_owners, holds, all_own, table_fits};

@@ -100,8 +100,8 @@ module _ (input output : List ℕ) where
     enough : has_room output ≡ true
     enough = le-leb 262144 (length output) room
 
-    with-room : Put output 0 (program_text input) n output' → n ≤ 262144 → AnswerPromise input output n output'
-    with-room p few = record {
+    with_room : Put output 0 (program_text input) n output' → n ≤ 262144 → AnswerPromise input output n output'
+    with_room p few = record {
       wrote = omega (arith, p.next) ∙ sym (ap (λ (t : Bool). length_by t input) enough);
       left = p.wrote ∙ sym (ap (λ (t : Bool). output_by t input output) enough);
       fits = few;
@@ -115,13 +115,13 @@ module _ (input output : List ℕ) where
     shop_in (ShopGiven S k m) = S
     shop_in NotGiven = shop_of input
 
-    abbrev owners-in : Given → ℕ
-    owners-in (ShopGiven S k m) = k
-    owners-in NotGiven = 0
+    abbrev owners_in : Given → ℕ
+    owners_in (ShopGiven S k m) = k
+    owners_in NotGiven = 0
 
-    abbrev messages-in : Given → ℕ
-    messages-in (ShopGiven S k m) = m
-    messages-in NotGiven = 0
+    abbrev messages_in : Given → ℕ
+    messages_in (ShopGiven S k m) = m
+    messages_in NotGiven = 0
 
     abbrev good : Given
     good = ShopGiven (shop_of input) (length (owners_of input)) (length (messages_of input))
@@ -130,25 +130,25 @@ module _ (input output : List ℕ) where
     abbrev by : Bool → List ℕ
     by t = report_by (ask t Text (run_verdict (shop_of input) (owners_of input) true (messages_of input) budget (room_of budget))) (program_run input)
 
-    pub text-refused : (g : Given) → g ≡ given_by input → g ≡ NotGiven → Put output 0 (refused_text 13) n output' × (n ≤ 20) → AnswerPromise input output n output'
-    text-refused g told e p =
-        let no-shop : is_shop input ≡ false = picked_bad some good NotGiven g (is_shop input) (ap some e) refl told in
-        with-room (subst (λ (t : List ℕ). Put output 0 t n output') (sym (ap by no-shop)) p.0) (omega (arith, p.1))
+    pub text_refused : (g : Given) → g ≡ given_by input → g ≡ NotGiven → Put output 0 (refused_text 13) n output' × (n ≤ 20) → AnswerPromise input output n output'
+    text_refused g told e p =
+        let no_shop : is_shop input ≡ false = picked_bad some good NotGiven g (is_shop input) (ap some e) refl told in
+        with_room (subst (λ (t : List ℕ). Put output 0 t n output') (sym (ap by no_shop)) p.0) (omega (arith, p.1))
 
-    pub text-run : (owners₀ stations₀ arrivals₀ relatives₀ lengths₀ owners stations arrivals relatives lengths : List ℕ) (g : Given)
+    pub text_run : (owners₀ stations₀ arrivals₀ relatives₀ lengths₀ owners stations arrivals relatives lengths : List ℕ) (g : Given)
         → ShopRead input owners₀ stations₀ arrivals₀ relatives₀ lengths₀ g owners stations arrivals relatives lengths
         → length owners₀ ≡ 1025 → stations₀ ≡ replicate 513 0 → arrivals₀ ≡ replicate 513 0 → relatives₀ ≡ replicate 513 0 → lengths₀ ≡ replicate 513 0
         → (S : Shop) (k m : ℕ) → g ≡ ShopGiven S k m → (a b : ℕ) → a ≡ min k 1025 → b ≡ min m 513
         → Printed output (columns_text S (mid_of 0 (a - 0) owners) (mid_of 0 (b - 0) stations) (mid_of 0 (b - 0) arrivals) (mid_of 0 (b - 0) relatives) (mid_of 0 (b - 0) lengths)) n output'
         → AnswerPromise input output n output'
-    text-run owners₀ stations₀ arrivals₀ relatives₀ lengths₀ owners stations arrivals relatives lengths g r lo ls la lr ll S k m e a b ea eb p =
+    text_run owners₀ stations₀ arrivals₀ relatives₀ lengths₀ owners stations arrivals relatives lengths g r lo ls la lr ll S k m e a b ea eb p =
         let t = picked_good some good NotGiven g (is_shop input) (ap some e) refl r.told in
         let is : ShopGiven S k m ≡ good = sym e ∙ t.1 in
         let ms : List Message = messages_of input in
-        let many : b ≡ min (length ms) 513 = eb ∙ ap (λ (x : Given). min (messages-in x) 513) is in
+        let many : b ≡ min (length ms) 513 = eb ∙ ap (λ (x : Given). min (messages_in x) 513) is in
         let laid = r.laid t.0 in
         let owned : mid_of 0 (a - 0) owners ≡ take 1025 (owners_of input) =
-        ap (λ (x : ℕ). take x owners) (sub-zero a ∙ ea ∙ ap (λ (x : Given). min (owners-in x) 1025) is)
+        ap (λ (x : ℕ). take x owners) (sub-zero a ∙ ea ∙ ap (λ (x : Given). min (owners_in x) 1025) is)
         ∙ ap (take (min (length (owners_of input)) 1025)) (r.owned t.0) ∙ front_laid owners₀ (owners_of input) 1025 lo in
         let zeros : (d : List ℕ) → d ≡ replicate 513 0 → length d ≡ 513 = λ d z. ap length z ∙ length-replicate {A = ℕ} 513 0 in
         let same : columns_text S (mid_of 0 (a - 0) owners) (mid_of 0 (b - 0) stations) (mid_of 0 (b - 0) arrivals) (mid_of 0 (b - 0) relatives) (mid_of 0 (b - 0) lengths) ≡ program_text input =
@@ -165,4 +165,4 @@ module _ (input output : List ℕ) where
         ∙ columns_are (shop_of input) (take 1025 (owners_of input)) (take 513 ms) (none_marked 513 (drop 2 (lines_of input)))
         ∙ report_kept (shop_of input) (owners_of input) ms budget (room_of budget)
         ∙ sym (ap by t.0) in
-        with-room (subst (λ (x : List ℕ). Put output 0 x n output') same p.put) p.short
+        with_room (subst (λ (x : List ℕ). Put output 0 x n output') same p.put) p.short

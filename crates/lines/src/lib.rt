@@ -1,6 +1,7 @@
 // Lines: the program as a function from the bytes of its input to the bytes of its output (docs/RULES.md, section 12).
 // `answer` reads the shop's text, runs the shop and writes its log and closing figures, or the line of a refusal.
 // Uses phases and refusals, and reading, wire and printing, which do the work.
+#![tactic(auto)]
 ghost use Rattle.std.specs.Prelude.{◌≡◌, ◌≤◌, min, length, replicate};
 ghost use Rattle.lines.specs.Promise.{AnswerPromise};
 ghost use Rattle.lines.specs.Work.{columns_text, Printed};

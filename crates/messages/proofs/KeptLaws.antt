@@ -86,17 +86,17 @@ module _ (ms ns : List Message) (same : map bare ns ≡ map bare ms) where
   -- a station's first message, at two slots
   module _ (was now station : ℕ)
       (alike : (j : ℕ) → j < length ms → candidate ns now station j ≡ candidate ms was station j) where
-    among-kept : (n : ℕ) → n ≤ length ms → first_among ns now station n ≡ first_among ms was station n
+    among_kept : (n : ℕ) → n ≤ length ms → first_among ns now station n ≡ first_among ms was station n
     unfolding first_among
-    among-kept zero h = refl
-    among-kept (suc i) h =
+    among_kept zero h = refl
+    among_kept (suc i) h =
         let f : ℕ = first_among ns now station i in
         let g : ℕ = first_among ms was station i in
         ap (λ (b : Bool). elim b [ true ↦ better ns f i | false ↦ f ]) (alike i h)
         ∙ ap (λ (x : ℕ). elim (candidate ms was station i) [ true ↦ better ns x i | false ↦ x ])
-        (among-kept i (omega arith))
+        (among_kept i (omega arith))
         ∙ ap (λ (x : ℕ). elim (candidate ms was station i) [ true ↦ x | false ↦ g ]) (bare_better g i)
 
     -- IT STAYS where the station's messages wait as they did
-    pub first-kept : first_message ns now station ≡ first_message ms was station
-    first-kept = ap (first_among ns now station) bare_length ∙ among-kept (length ms) (omega arith)
+    pub first_kept : first_message ns now station ≡ first_message ms was station
+    first_kept = ap (first_among ns now station) bare_length ∙ among_kept (length ms) (omega arith)

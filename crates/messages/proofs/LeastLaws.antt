@@ -11,7 +11,7 @@ use lib.ListN.{length, get_or}
 use borrow.Author.Tests.{ltb-true, ltb-false, eqb-true, eqb-false}
 use Rattle.messages.specs.declared.Message.{Message}
 use Rattle.messages.specs.Message.{none, blank, deadline_of, goes_before, better, first_among, first_message}
-use Rattle.messages.proofs.OrderLaws.{candidate, better_none, better-new, better-old}
+use Rattle.messages.proofs.OrderLaws.{candidate, better_none, better_new, better_old}
 use Rattle.messages.proofs.OrderLaws.{among, among_with, among_without}
 
 -- a goes before b: a smaller deadline, or the same and an earlier arrival
@@ -85,8 +85,8 @@ module _ (ms : List Message) where
     FirstOf f n = (j : ℕ) → j < n → candidate ms slot station j ≡ true → (f ≡ none → ⊥) × Least f j
 
     -- one candidate more
-    first-with : (f i : ℕ) → i < none → ((f ≡ none) ⊎ (f < i)) → FirstOf f i → FirstOf (better ms f i) (suc i)
-    first-with f i few found ih j l c =
+    first_with : (f i : ℕ) → i < none → ((f ≡ none) ⊎ (f < i)) → FirstOf f i → FirstOf (better ms f i) (suc i)
+    first_with f i few found ih j l c =
         go (eqb f none) refl (goes_before (get_or ms i blank) (get_or ms f blank)) refl (eqb j i) refl
       where
         here : (x : ℕ) → better ms f i ≡ x → (x ≡ none → ⊥) × Least x j
@@ -103,24 +103,24 @@ module _ (ms : List Message) where
             let other : j ≡ i → ⊥ = eqb-false j i q in
             absurd ((ih j (omega arith) c).0 (eqb-true f none e))
         go false e true g true q =
-            here i (better-new ms f i (eqb-false f none e) _ _ refl refl g) (self (eqb-true j i q))
+            here i (better_new ms f i (eqb-false f none e) _ _ refl refl g) (self (eqb-true j i q))
         go false e true g false q =
             let other : j ≡ i → ⊥ = eqb-false j i q in
-            here i (better-new ms f i (eqb-false f none e) _ _ refl refl g)
+            here i (better_new ms f i (eqb-false f none e) _ _ refl refl g)
             (omega arith, least_new i f j g (ih j (omega arith) c).1)
         go false e false g true q =
             let same : j ≡ i = eqb-true j i q in
             let some : f ≡ none → ⊥ = eqb-false f none e in
             let lt : f < i = ⊎_elim (λ h. absurd (some h)) (λ h. h) found in
-            here f (better-old ms f i some _ _ refl refl g) (some, rw same (least_old f i lt g))
+            here f (better_old ms f i some _ _ refl refl g) (some, rw same (least_old f i lt g))
         go false e false g false q =
             let other : j ≡ i → ⊥ = eqb-false j i q in
-            here f (better-old ms f i (eqb-false f none e) _ _ refl refl g)
+            here f (better_old ms f i (eqb-false f none e) _ _ refl refl g)
             (eqb-false f none e, (ih j (omega arith) c).1)
 
-    least-among : (n : ℕ) → n ≤ none → FirstOf (first_among ms slot station n) n
-    least-among zero h = λ j l c. absurd (omega arith)
-    least-among (suc i) h = go (candidate ms slot station i) refl (least-among i (omega arith))
+    least_among : (n : ℕ) → n ≤ none → FirstOf (first_among ms slot station n) n
+    least_among zero h = λ j l c. absurd (omega arith)
+    least_among (suc i) h = go (candidate ms slot station i) refl (least_among i (omega arith))
       where
         f : ℕ
         f = first_among ms slot station i
@@ -134,7 +134,7 @@ module _ (ms : List Message) where
 
         go : (b : Bool) → candidate ms slot station i ≡ b → FirstOf f i
             → FirstOf (first_among ms slot station (suc i)) (suc i)
-        go true e ih = next (better ms f i) (among_with ms slot station i e) (first-with f i h below ih)
+        go true e ih = next (better ms f i) (among_with ms slot station i e) (first_with f i h below ih)
         go false e ih = next f (among_without ms slot station i e) (λ j l c. ih j (older j l c) c)
           where
             older : (j : ℕ) → j < suc i → candidate ms slot station j ≡ true → j < i
@@ -146,6 +146,6 @@ module _ (ms : List Message) where
                 omega arith
 
     -- A STATION'S FIRST MESSAGE goes first of all its messages that wait, in a list of fewer than 65,536
-    pub first-least : length ms ≤ none → (j : ℕ) → j < length ms → candidate ms slot station j ≡ true
+    pub first_least : length ms ≤ none → (j : ℕ) → j < length ms → candidate ms slot station j ≡ true
         → (first_message ms slot station ≡ none → ⊥) × Least (first_message ms slot station) j
-    first-least h = least-among (length ms) h
+    first_least h = least_among (length ms) h

@@ -73,12 +73,12 @@ module _ (ms : List Message) (slot station : ℕ) where
     chosen = ⊎_elim (λ e. absurd (some e)) (λ h. h) (among ms slot station (length ms))
 
     -- it is a message of the list
-    pub first-numbered : first_message ms slot station < length ms
-    first-numbered = chosen.0
+    pub first_numbered : first_message ms slot station < length ms
+    first_numbered = chosen.0
 
     -- it is of the station, and waits
-    pub first-waits : ((get_or ms (first_message ms slot station) blank).station ≡ station) × (waits slot (get_or ms (first_message ms slot station) blank) ≡ true)
-    first-waits = split (get_or ms (first_message ms slot station) blank) station chosen.1
+    pub first_waits : ((get_or ms (first_message ms slot station) blank).station ≡ station) × (waits slot (get_or ms (first_message ms slot station) blank) ≡ true)
+    first_waits = split (get_or ms (first_message ms slot station) blank) station chosen.1
       where
         split : (m : Message) (n : ℕ) → (eqb m.station n && waits slot m) ≡ true → (m.station ≡ n) × (waits slot m ≡ true)
         split m n e = go (eqb m.station n) refl e

@@ -51,11 +51,11 @@ module _ (ms : List Message) (best i : ℕ) where
   better_none h = better_by true (rw (eq-eqb best none h) refl)
 
   module _ (some : best ≡ none → ⊥) (a b : Message) (is-a : a ≡ get_or ms i blank) (is_b : b ≡ get_or ms best blank) where
-    pub better-new : goes_before a b ≡ true → better ms best i ≡ i
-    better-new e = better_by true (rw (ne_eqb best none some, ← is-a, ← is_b) e)
+    pub better_new : goes_before a b ≡ true → better ms best i ≡ i
+    better_new e = better_by true (rw (ne_eqb best none some, ← is-a, ← is_b) e)
 
-    pub better-old : goes_before a b ≡ false → better ms best i ≡ best
-    better-old e = better_by false (rw (ne_eqb best none some, ← is-a, ← is_b) e)
+    pub better_old : goes_before a b ≡ false → better ms best i ≡ best
+    better_old e = better_by false (rw (ne_eqb best none some, ← is-a, ← is_b) e)
 
   -- it is one of the two
   pub better_cases : (better ms best i ≡ i) ⊎ (better ms best i ≡ best)

@@ -1,6 +1,7 @@
 // Messages: one message, and which of a station's waiting messages goes first (docs/RULES.md, section 8).
 // The functions on one message take it as a record; the list of messages is lent as a slice of numbers for each field.
 // Uses nothing.
+#![tactic(auto)]
 ghost use Rattle.std.specs.Prelude.{◌≡◌, ◌&&◌, ◌<◌, eqb, length, get_or, replicate};
 ghost use Rattle.messages.specs.Message.{unsent, deadline_of, waits, goes_before, blank, better};
 ghost use Rattle.messages.specs.Lists.{listed, all_marked, Timed, SameLength, TimedList, Found};
@@ -12,7 +13,7 @@ pub const UNSENT: u32 = 4294967295;
 pub const NO_MESSAGE: u32 = 65535;
 
 #[repr(C)]
-#[derive(Drop)]
+#[derive(Clone, Copy)]
 pub struct Message {
     pub station: u32,
     pub arrival: u32,

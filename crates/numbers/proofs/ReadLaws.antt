@@ -52,11 +52,11 @@ module _ (bytes : List ℕ) (value i : ℕ) (r : Read bytes value i) where
     rest : drop i bytes ≡ b ∷ drop (suc i) bytes
     rest = drop-cons bytes i 0 h
 
-    pub read-other : is_digit b ≡ false → Bad ≡ number_in bytes
-    read-other e = bad bytes (simp (sized, r.digits ∙ ap all_digits rest, e))
+    pub read_other : is_digit b ≡ false → Bad ≡ number_in bytes
+    read_other e = bad bytes (simp (sized, r.digits ∙ ap all_digits rest, e))
 
-    pub read-large : 4294967295 < 10 * value + (b - 48) → Bad ≡ number_in bytes
-    read-large g =
+    pub read_large : 4294967295 < 10 * value + (b - 48) → Bad ≡ number_in bytes
+    read_large g =
         let v : value_of bytes ≡ value_from (10 * value + (b - 48)) (drop (suc i) bytes) = r.values ∙ ap (value_from value) rest in
         let big : leb (value_of bytes) 4294967295 ≡ false = lt-leb (value_of bytes) 4294967295 (omega (arith, v, value_grows (10 * value + (b - 48)) (drop (suc i) bytes))) in
         bad bytes (fails_behind (within 1 10 (length bytes)) (all_digits bytes && leb (value_of bytes) 4294967295) (fails_behind (all_digits bytes) (leb (value_of bytes) 4294967295) big))

@@ -1,6 +1,7 @@
 // Numbers: decimal numbers as the program's lines hold them (docs/RULES.md, section 12).
 // `put_number` writes one, `read_number` reads one; each undoes the other (proofs/Inverse.antt).
 // Its definitions use those of refusals for ranges and of rows for a buffer; its code uses nothing.
+#![tactic(auto)]
 ghost use Rattle.std.specs.Prelude.{◌≡◌, ◌+◌, ◌*◌, ◌-◌, ◌≤◌, ◌<◌, length};
 ghost use Rattle.rows.specs.Log.{over};
 ghost use Rattle.numbers.specs.Decimal.{digit, is_digit, decimal, number_in};
@@ -10,7 +11,7 @@ const NUMBER_MAX: u64 = 4294967295;
 const DIGITS_MAX: usize = 10;
 
 // What some bytes say as a number.
-#[derive(Drop)]
+#[derive(Clone, Copy)]
 pub enum Number {
     Value(u32),
     Bad,

@@ -3,6 +3,7 @@
 // Each kind of job has several trees, so that no recursive function is compiled for the numbers of one; the checks
 // that come first in a call may be.
 // Uses searches, counts and placements.
+#![tactic(auto)]
 ghost use Rattle.std.specs.Prelude.{◌≤◌};
 
 use counts::Count;

@@ -4,6 +4,7 @@
 //
 //   free --collision--> time (0, F/m) --..--> time leaf p --collision--> static (0, q/m) for p --..--> time, after p
 //   time search over: free where something was sent in it, else the reference time grows and it starts anew
+#![tactic(auto)]
 ghost use Rattle.std.specs.Prelude.{◌≡◌, ◌+◌, ◌≤◌};
 ghost use Rattle.phases.specs.After.{time_start, time_over, time_on, static_on, time_down, after_free, after_time, after_static, after};
 ghost use Rattle.phases.specs.Work.{Sound, Within};
@@ -12,7 +13,7 @@ use rows::Channel;
 
 // A tree: branches at each node, leaves in all.
 #[repr(C)]
-#[derive(Drop)]
+#[derive(Clone, Copy)]
 pub struct Shape {
     pub branches: u32,
     pub leaves: u32,
@@ -20,7 +21,7 @@ pub struct Shape {
 
 // The numbers of a shop: stations, class width, offset, compression factor, the time tree and the tree of static indices.
 #[repr(C)]
-#[derive(Drop)]
+#[derive(Clone, Copy)]
 pub struct Shop {
     pub stations: u32,
     pub width: u32,
@@ -31,7 +32,7 @@ pub struct Shop {
 }
 
 // Where the wire stands. A static search belongs to the time leaf on which stations collided.
-#[derive(Drop)]
+#[derive(Clone, Copy)]
 pub enum Standing {
     Free,
     Time { first: u32, width: u32 },
@@ -39,7 +40,7 @@ pub enum Standing {
 }
 
 // All that changes from slot to slot but the messages; `sent` is whether this time search has sent anything.
-#[derive(Drop)]
+#[derive(Clone, Copy)]
 pub struct State {
     pub reference: u64,
     pub slot: u32,

@@ -3,6 +3,7 @@
 // active leaf or none; no counts are computed and no memory is wanted. worst_of does not grow with k: few leaves go in
 // pairs, which collide far down, many leaves are spread evenly.
 // Uses refusals and trees.
+#![tactic(auto)]
 ghost use Rattle.std.specs.Prelude.{◌≡◌, ℕ, ◌^◌, ◌≤◌, length, replicate};
 ghost use Rattle.trees.specs.Shape.{Tree};
 ghost use Rattle.trees.proofs.Shares.{equal_share, share as share_of};
@@ -13,7 +14,7 @@ ghost use Rattle.placements.specs.Promise.{PlacementPromise};
 use refusals::{Refusal, Verdict};
 
 // The answer of `place`.
-#[derive(Drop)]
+#[derive(Clone, Copy)]
 pub enum Placement {
     Placed,
     Refused(Refusal),

@@ -89,7 +89,7 @@ lines_next d at log k i n d₁ l more room row back n' d₂ p few same =
     record {
       inside = omega arith;
       kept = same ∙ l.kept;
-      lines = λ rs is. put_as (sym (text-next rs is)) (put_then (l.lines rs is) p (omega (arith, l.short)));
+      lines = λ rs is. put_as (sym (text_next rs is)) (put_then (l.lines rs is) p (omega (arith, l.short)));
       short = omega (arith, l.short);
     }
   where
@@ -97,8 +97,8 @@ lines_next d at log k i n d₁ l more room row back n' d₂ p few same =
     row_is rs is = back (get_or rs i blank_row)
         (sym (part_of_front (16 * i) 16 (16 * k) log (omega arith)) ∙ ap (λ (x : List ℕ). take 16 (drop (16 * i) x)) is.front ∙ row_bytes_lem rs i (omega (arith, is.count)))
 
-    text-next : (rs : List Row) → Listed log k rs → rows_text (take (i + 1) rs) ≡ rows_text (take i rs) ++ row_text row
-    text-next rs is =
+    text_next : (rs : List Row) → Listed log k rs → rows_text (take (i + 1) rs) ≡ rows_text (take i rs) ++ row_text row
+    text_next rs is =
         ap (λ (x : ℕ). rows_text (take x rs)) (add-one i)
         ∙ ap rows_text (take-suc rs i blank_row (omega (arith, is.count)))
         ∙ rows_snoc (take i rs) (get_or rs i blank_row)

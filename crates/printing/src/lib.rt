@@ -1,6 +1,7 @@
 // Printing: what the program writes of a run (docs/RULES.md, section 12): a line for each row of the log and a closing
 // line, or the one line of a refusal. `put_report` writes it all.
 // Uses refusals, rows, wire for how a run ends, numbers, and readback for the rows of a log.
+#![tactic(auto)]
 ghost use Rattle.std.specs.Prelude.{◌≡◌, true, [], ◌∷◌, ◌++◌, ◌+◌, ◌*◌, ◌≤◌, length};
 ghost use Rattle.refusals.specs.Numbers.{number_of};
 ghost use Rattle.wire.specs.Answer.{ended, reading_of};

@@ -83,37 +83,37 @@ module _ (text : List ℕ) (first : ℕ) (p : Part text 0 10 first) where
   head_other e = ap shop_lines lines ∙ other_shop (take first text) (from 10 text (first + 1)) (none_told (take first text) e)
 
   module _ (second : ℕ) (q : Part text (first + 1) 10 second) where
-    abbrev owner-bytes : List ℕ
-    owner-bytes = part (first + 1) second text
+    abbrev owner_bytes : List ℕ
+    owner_bytes = part (first + 1) second text
 
-    both-lines : lines_of text ≡ take first text ∷ owner-bytes ∷ from 10 text (second + 1)
-    both-lines = lines ∙ ap (λ (ls : List (List ℕ)). take first text ∷ ls) q.first
+    both_lines : lines_of text ≡ take first text ∷ owner_bytes ∷ from 10 text (second + 1)
+    both_lines = lines ∙ ap (λ (ls : List (List ℕ)). take first text ∷ ls) q.first
 
-    pub owners-unended : length text ≤ second → shop_lines (lines_of text) ≡ false
-    owners-unended h =
-        ap shop_lines (both-lines ∙ ap (λ (ls : List (List ℕ)). take first text ∷ owner-bytes ∷ ls) (from_behind 10 text (second + 1) (omega arith)))
-        ∙ fails_behind (holds 8 (take first text)) (is_numbers owner-bytes && false) (fails_behind (is_numbers owner-bytes) false refl)
+    pub owners_unended : length text ≤ second → shop_lines (lines_of text) ≡ false
+    owners_unended h =
+        ap shop_lines (both_lines ∙ ap (λ (ls : List (List ℕ)). take first text ∷ owner_bytes ∷ ls) (from_behind 10 text (second + 1) (omega arith)))
+        ∙ fails_behind (holds 8 (take first text)) (is_numbers owner_bytes && false) (fails_behind (is_numbers owner_bytes) false refl)
 
-    module _ (owners owners' : List ℕ) (count : ℕ) (r : LineRead owner-bytes owners count owners') where
-      pub owners-other : count ≡ 0 → shop_lines (lines_of text) ≡ false
-      owners-other e =
-          let no : is_numbers owner-bytes ≡ false = none_counted owner-bytes (sym r.counted ∙ e) in
-          ap shop_lines both-lines
-          ∙ fails_behind (holds 8 (take first text)) (is_numbers owner-bytes && messages_follow (from 10 text (second + 1))) (sym (fails (is_numbers owner-bytes) (messages_follow (from 10 text (second + 1))) no))
+    module _ (owners owners' : List ℕ) (count : ℕ) (r : LineRead owner_bytes owners count owners') where
+      pub owners_other : count ≡ 0 → shop_lines (lines_of text) ≡ false
+      owners_other e =
+          let no : is_numbers owner_bytes ≡ false = none_counted owner_bytes (sym r.counted ∙ e) in
+          ap shop_lines both_lines
+          ∙ fails_behind (holds 8 (take first text)) (is_numbers owner_bytes && messages_follow (from 10 text (second + 1))) (sym (fails (is_numbers owner_bytes) (messages_follow (from 10 text (second + 1))) no))
 
       pub headed : second < length text → (S : Shop) → ShopFound S ≡ shop_line (take first text) → (count ≡ 0 → ⊥) → Headed text owners S count (second + 1) owners'
       headed h S is any =
           let told = shop_told (take first text) S is in
-          let yes : is_numbers owner-bytes ≡ true = count_told owner-bytes (λ e. any (r.counted ∙ e)) in
-          let one : get_or (lines_of text) 0 [] ≡ take first text = ap (λ (ls : List (List ℕ)). get_or ls 0 []) both-lines in
-          let two : get_or (lines_of text) 1 [] ≡ owner-bytes = ap (λ (ls : List (List ℕ)). get_or ls 1 []) both-lines in
+          let yes : is_numbers owner_bytes ≡ true = count_told owner_bytes (λ e. any (r.counted ∙ e)) in
+          let one : get_or (lines_of text) 0 [] ≡ take first text = ap (λ (ls : List (List ℕ)). get_or ls 0 []) both_lines in
+          let two : get_or (lines_of text) 1 [] ≡ owner_bytes = ap (λ (ls : List (List ℕ)). get_or ls 1 []) both_lines in
           record {
             line_of_shop = ap (holds 8) one ∙ told.0;
             shop_is = told.1 ∙ ap (λ (l : List ℕ). shop_in (numbers_of l)) (sym one);
             owner_line = ap is_numbers two ∙ yes;
-            counted = r.counted ∙ rw (yes, count_of) (sym (length-map (parts owner-bytes) value_of)) ∙ ap (λ (l : List ℕ). length (numbers_of l)) (sym two);
+            counted = r.counted ∙ rw (yes, count_of) (sym (length-map (parts owner_bytes) value_of)) ∙ ap (λ (l : List ℕ). length (numbers_of l)) (sym two);
             owned = r.laid yes ∙ ap (λ (l : List ℕ). onto owners (numbers_of l)) (sym two);
-            more = both-lines ∙ ap (λ (l : List ℕ). l ∷ owner-bytes ∷ from 10 text (second + 1)) (sym one) ∙ ap (λ (l : List ℕ). get_or (lines_of text) 0 [] ∷ l ∷ from 10 text (second + 1)) (sym two);
+            more = both_lines ∙ ap (λ (l : List ℕ). l ∷ owner_bytes ∷ from 10 text (second + 1)) (sym one) ∙ ap (λ (l : List ℕ). get_or (lines_of text) 0 [] ∷ l ∷ from 10 text (second + 1)) (sym two);
             inside = omega arith;
           }
 
@@ -134,16 +134,16 @@ module _ (text owners stations arrivals relatives lengths owners' stations' arri
 
   module _ (S : Shop) (count next : ℕ) (h : Headed text owners S count next owners') (n : Messages)
       (r : MessagesRead (from 10 text next) stations arrivals relatives lengths n stations' arrivals' relatives' lengths') where
-    lines-by : shop_lines (lines_of text) ≡ messages_follow (from 10 text next)
-    lines-by = ap shop_lines h.more ∙ simp (h.line_of_shop, h.owner_line)
+    lines_by : shop_lines (lines_of text) ≡ messages_follow (from 10 text next)
+    lines_by = ap shop_lines h.more ∙ simp (h.line_of_shop, h.owner_line)
 
-    pub messages-other : n ≡ NoMessages → ReadAs NotGiven
-    messages-other e = text_other (lines-by ∙ picked_bad counted (Count (length (message_lines (from 10 text next)))) NoMessages n (messages_follow (from 10 text next)) (ap counted e) refl r.told)
+    pub messages_other : n ≡ NoMessages → ReadAs NotGiven
+    messages_other e = text_other (lines_by ∙ picked_bad counted (Count (length (message_lines (from 10 text next)))) NoMessages n (messages_follow (from 10 text next)) (ap counted e) refl r.told)
 
-    pub shop-read : length text ≤ 65536 → (k : ℕ) → n ≡ Count k → ReadAs (ShopGiven S count k)
-    shop-read few k e =
+    pub shop_read : length text ≤ 65536 → (k : ℕ) → n ≡ Count k → ReadAs (ShopGiven S count k)
+    shop_read few k e =
         let t = picked_good counted (Count (length (message_lines (from 10 text next)))) NoMessages n (messages_follow (from 10 text next)) (ap counted e) refl r.told in
-        let yes : is_shop text ≡ true = simp (le-leb (length text) 65536 few, lines-by ∙ t.0) in
+        let yes : is_shop text ≡ true = simp (le-leb (length text) 65536 few, lines_by ∙ t.0) in
         let rest : message_lines (from 10 text next) ≡ messages_of text = sym (ap (λ (ls : List (List ℕ)). message_lines (drop 2 ls)) h.more) in
         let many : k ≡ length (messages_of text) = ap number (sym e ∙ t.1) ∙ ap length rest in
         record {

@@ -133,13 +133,13 @@ module _ (line fields₀ : List ℕ) (count a : ℕ) (fields : List ℕ) (s : So
     next : drop count (parts line) ≡ part a e line ∷ from 32 line (e + 1)
     next = s.left ∙ p.first
 
-    pub so-far-bad : (fields' : List ℕ) → Bad ≡ number_in (part a e line) → LineRead line fields₀ 0 fields'
-    so-far-bad fields' f =
+    pub so_far_bad : (fields' : List ℕ) → Bad ≡ number_in (part a e line) → LineRead line fields₀ 0 fields'
+    so_far_bad fields' f =
         let no : is_numbers line ≡ false = numbers_stop (parts line) count (part a e line) (from 32 line (e + 1)) next (bad_told (part a e line) f) in
         record { counted = sym (rw (no, count_of) refl); laid = λ yes. differ (sym yes ∙ no) }
 
-    pub so-far-next : (v : ℕ) (fields' : List ℕ) → Value v ≡ number_in (part a e line) → fields' ≡ set fields count v → SoFar line fields₀ (count + 1) (e + 1) fields'
-    so-far-next v fields' f g =
+    pub so_far_next : (v : ℕ) (fields' : List ℕ) → Value v ≡ number_in (part a e line) → fields' ≡ set fields count v → SoFar line fields₀ (count + 1) (e + 1) fields'
+    so_far_next v fields' f g =
         let told = value_told (part a e line) v f in
         let t = taken (parts line) count (part a e line) (from 32 line (e + 1)) next in
         let one : count + 1 ≡ suc count = add-one count in
@@ -193,5 +193,5 @@ module _ (n : ℕ) (line fields : List ℕ) (count : ℕ) (fields' : List ℕ) (
     pub line_gives : count ≡ n → length fields ≡ n → made fields' ≡ pick (holds n line) (made (numbers_of line)) other
     line_gives e l = ap made (line_fields e l) ∙ sym (ap (λ (t : Bool). pick t (made (numbers_of line)) other) (line_holds e))
 
-    pub line-gives-other : (count ≡ n → ⊥) → other ≡ pick (holds n line) (made (numbers_of line)) other
-    line-gives-other f = sym (ap (λ (t : Bool). pick t (made (numbers_of line)) other) (line_misses f))
+    pub line_gives_other : (count ≡ n → ⊥) → other ≡ pick (holds n line) (made (numbers_of line)) other
+    line_gives_other f = sym (ap (λ (t : Bool). pick t (made (numbers_of line)) other) (line_misses f))

@@ -82,17 +82,17 @@ module _ (text : List ℕ) (start : ℕ) (stations₀ arrivals₀ relatives₀ l
 
   module _ (count a : ℕ) (stations arrivals relatives lengths : List ℕ) (f : Following text start stations₀ arrivals₀ relatives₀ lengths₀ count a stations arrivals relatives lengths) where
     -- the columns are as long as they came
-    pub stations-kept : length stations ≡ length stations₀
-    stations-kept = ap length f.laid.of_stations ∙ length_onto stations₀ (map (λ (m : Message). m.station) (take count (message_lines ls)))
+    pub stations_kept : length stations ≡ length stations₀
+    stations_kept = ap length f.laid.of_stations ∙ length_onto stations₀ (map (λ (m : Message). m.station) (take count (message_lines ls)))
 
-    pub arrivals-kept : length arrivals ≡ length arrivals₀
-    arrivals-kept = ap length f.laid.of_arrivals ∙ length_onto arrivals₀ (map (λ (m : Message). m.arrival) (take count (message_lines ls)))
+    pub arrivals_kept : length arrivals ≡ length arrivals₀
+    arrivals_kept = ap length f.laid.of_arrivals ∙ length_onto arrivals₀ (map (λ (m : Message). m.arrival) (take count (message_lines ls)))
 
-    pub relatives-kept : length relatives ≡ length relatives₀
-    relatives-kept = ap length f.laid.of_relatives ∙ length_onto relatives₀ (map (λ (m : Message). m.relative) (take count (message_lines ls)))
+    pub relatives_kept : length relatives ≡ length relatives₀
+    relatives_kept = ap length f.laid.of_relatives ∙ length_onto relatives₀ (map (λ (m : Message). m.relative) (take count (message_lines ls)))
 
-    pub lengths-kept : length lengths ≡ length lengths₀
-    lengths-kept = ap length f.laid.of_lengths ∙ length_onto lengths₀ (map (λ (m : Message). m.length) (take count (message_lines ls)))
+    pub lengths_kept : length lengths ≡ length lengths₀
+    lengths_kept = ap length f.laid.of_lengths ∙ length_onto lengths₀ (map (λ (m : Message). m.length) (take count (message_lines ls)))
 
     module _ (more : a < length text) (e : ℕ) (p : Part text a 10 e) where
       abbrev line : List ℕ
@@ -111,13 +111,13 @@ module _ (text : List ℕ) (start : ℕ) (stations₀ arrivals₀ relatives₀ l
       next : e < length text → drop count (message_lines ls) ≡ message_in (numbers_of line) ∷ message_lines (from 10 text (e + 1))
       next h = f.left ∙ ap message_lines p.first ∙ lines_step line (from 10 text (e + 1)) (behind h)
 
-      pub following-unended : length text ≤ e → MessagesRead ls stations₀ arrivals₀ relatives₀ lengths₀ NoMessages stations arrivals relatives lengths
-      following-unended h =
+      pub following_unended : length text ≤ e → MessagesRead ls stations₀ arrivals₀ relatives₀ lengths₀ NoMessages stations arrivals relatives lengths
+      following_unended h =
           stopped ls stations₀ arrivals₀ relatives₀ lengths₀ stations arrivals relatives lengths
           (f.follow ∙ ap messages_follow (p.first ∙ ap (λ (ps : List (List ℕ)). line ∷ ps) (from_behind 10 text (e + 1) (omega arith))) ∙ not_empty line (omega (arith, long)))
 
-      pub following-other : e < length text → NoMessage ≡ message_line line → MessagesRead ls stations₀ arrivals₀ relatives₀ lengths₀ NoMessages stations arrivals relatives lengths
-      following-other h n = stopped ls stations₀ arrivals₀ relatives₀ lengths₀ stations arrivals relatives lengths (follows h ∙ simp (none_told line n))
+      pub following_other : e < length text → NoMessage ≡ message_line line → MessagesRead ls stations₀ arrivals₀ relatives₀ lengths₀ NoMessages stations arrivals relatives lengths
+      following_other h n = stopped ls stations₀ arrivals₀ relatives₀ lengths₀ stations arrivals relatives lengths (follows h ∙ simp (none_told line n))
 
       module _ (h : e < length text) (m : Message) (is : MessageFound m ≡ message_line line) (stations' arrivals' relatives' lengths' : List ℕ)
           (put : MessagePut stations arrivals relatives lengths count m stations' arrivals' relatives' lengths') where
@@ -132,8 +132,8 @@ module _ (text : List ℕ) (start : ℕ) (stations₀ arrivals₀ relatives₀ l
             (now ∙ ap (λ (x : Message). set d₁ count (field x)) (message_told line m is).1)
             ∙ ap (λ (k : ℕ). onto d (map field (take k (message_lines ls)))) (sym one)
 
-        pub following-next : Following text start stations₀ arrivals₀ relatives₀ lengths₀ (count + 1) (e + 1) stations' arrivals' relatives' lengths'
-        following-next =
+        pub following_next : Following text start stations₀ arrivals₀ relatives₀ lengths₀ (count + 1) (e + 1) stations' arrivals' relatives' lengths'
+        following_next =
             let t = taken (message_lines ls) count (message_in (numbers_of line)) (message_lines (from 10 text (e + 1))) (next h) in
             record {
               inside = omega arith;
@@ -149,8 +149,8 @@ module _ (text : List ℕ) (start : ℕ) (stations₀ arrivals₀ relatives₀ l
               };
             }
 
-    pub following-all : length text ≤ a → MessagesRead ls stations₀ arrivals₀ relatives₀ lengths₀ (Count count) stations arrivals relatives lengths
-    following-all h =
+    pub following_all : length text ≤ a → MessagesRead ls stations₀ arrivals₀ relatives₀ lengths₀ (Count count) stations arrivals relatives lengths
+    following_all h =
         let end : a ≡ length text = omega (arith, f.inside) in
         let last : from 10 text a ≡ [] ∷ [] = from_inside 10 text a f.inside ∙ ap (pieces 10) (ap (λ (k : ℕ). drop k text) end ∙ drop-length text) in
         let none : drop count (message_lines ls) ≡ [] = f.left ∙ ap message_lines last in

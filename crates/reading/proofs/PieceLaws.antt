@@ -80,8 +80,8 @@ module _ (bytes : List ℕ) (a mark e : ℕ) (s : Seeking bytes a mark e) where
         ∙ take-suc (drop a bytes) (e - a) 0 (omega (arith, s.after, length-drop a bytes))
         ∙ ap (λ (x : ℕ). part a e bytes ++ (x ∷ [])) (get_or-drop a bytes (e - a) 0 ∙ ap (λ (k : ℕ). get_or bytes k 0) place)
 
-    pub seeking-next : (b ≡ mark → ⊥) → Seeking bytes a mark (e + 1)
-    seeking-next f = record {
+    pub seeking_next : (b ≡ mark → ⊥) → Seeking bytes a mark (e + 1)
+    seeking_next f = record {
       after = omega (arith, s.after);
       inside = omega arith;
       first = s.first
@@ -92,8 +92,8 @@ module _ (bytes : List ℕ) (a mark e : ℕ) (s : Seeking bytes a mark e) where
           ∙ ap (λ (l : List ℕ). led (part a (e + 1) bytes) (pieces mark l)) (sym one);
     }
 
-    pub seeking-found : b ≡ mark → Part bytes a mark e
-    seeking-found f = record {
+    pub seeking_found : b ≡ mark → Part bytes a mark e
+    seeking_found f = record {
       after = s.after;
       inside = s.inside;
       first = from_inside mark bytes a (omega (arith, s.after))

@@ -1,6 +1,7 @@
 // Reading: the text of a shop, line by line (docs/RULES.md, section 12). `read_shop` reads it all.
 // Numbers that do not fit into a lent column are read and counted, and not kept: no shop with so many is run.
 // Uses messages and phases for what a text gives, and numbers.
+#![tactic(auto)]
 ghost use Rattle.std.specs.Prelude.{◌≡◌, ◌≤◌, length, set};
 ghost use Rattle.reading.specs.Work.{from, Part, LineRead, shop_line, message_line};
 ghost use Rattle.reading.specs.Work.{MessagePut, MessagesRead, HeadRead, ShopRead};
@@ -16,28 +17,28 @@ const LINE_FEED: u8 = 10;
 const TEXT_MAX: usize = 65536;
 
 // What the first line gives.
-#[derive(Drop)]
+#[derive(Clone, Copy)]
 pub enum ShopLine {
     Shop(Shop),
     Bad,
 }
 
 // What a line of a message gives.
-#[derive(Drop)]
+#[derive(Clone, Copy)]
 pub enum MessageLine {
     Message(Message),
     Bad,
 }
 
 // How many messages follow, or that something else does.
-#[derive(Drop)]
+#[derive(Clone, Copy)]
 pub enum Messages {
     Count(usize),
     Bad,
 }
 
 // What the first two lines give: a shop, how many owners, and where the third line starts.
-#[derive(Drop)]
+#[derive(Clone, Copy)]
 pub enum Head {
     Lines {
         shop: Shop,
@@ -48,7 +49,7 @@ pub enum Head {
 }
 
 // What the whole text gives: a shop, and how many owners and messages.
-#[derive(Drop)]
+#[derive(Clone, Copy)]
 pub enum Given {
     Shop {
         shop: Shop,

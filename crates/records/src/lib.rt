@@ -1,6 +1,7 @@
 // Records: a lent list of messages, copied into a table of 512 places and back (docs/RULES.md, section 8).
 // The functions over the lent slice are these two; what is done with the records is done in the table.
 // Uses messages.
+#![tactic(auto)]
 ghost use Rattle.std.specs.Prelude.{◌≡◌, set, get_or, replicate};
 ghost use Rattle.messages.specs.Message.{blank};
 ghost use Rattle.records.specs.Table.{laid_over};

@@ -1,11 +1,12 @@
 // Refusals: the reasons for which a call sends its input back, each with its number (docs/RULES.md, section 2).
 // Every call answers with one of these or with its figures; a call's checks end in a verdict.
 // Uses nothing.
+#![tactic(auto)]
 ghost use Rattle.std.specs.Prelude.{◌≡◌};
 ghost use Rattle.refusals.specs.Numbers.{number_of};
 
 // Why an input is refused, in the order of the numbers 1 to 13.
-#[derive(Drop)]
+#[derive(Clone, Copy)]
 pub enum Refusal {
     Branching,
     LeafCount,
@@ -23,7 +24,7 @@ pub enum Refusal {
 }
 
 // What a call's checks come to.
-#[derive(Drop)]
+#[derive(Clone, Copy)]
 pub enum Verdict {
     Granted,
     Refused(Refusal),

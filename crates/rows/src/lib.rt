@@ -3,6 +3,8 @@
 // Uses nothing.
 //
 //   slot 0..3 | phase 4 | state 5 | first leaf 6, 7 | width 8, 9 | message 10, 11 | slots used 12, 13 | zero 14, 15
+#![tactic(auto)]
+
 ghost use Rattle.std.specs.Prelude.{◌≡◌, ◌+◌, ◌*◌, ◌≤◌, length};
 ghost use Rattle.rows.specs.Log.{phase_number, state_number, row_bytes, over};
 
@@ -10,7 +12,7 @@ ghost use Rattle.rows.specs.Log.{phase_number, state_number, row_bytes, over};
 pub const NO_MESSAGE: u16 = 65535;
 
 // The part of the protocol that a slot belongs to.
-#[derive(Drop)]
+#[derive(Clone, Copy)]
 pub enum Phase {
     Free,
     Time,
@@ -19,14 +21,14 @@ pub enum Phase {
 }
 
 // What the wire shows in a slot.
-#[derive(Drop)]
+#[derive(Clone, Copy)]
 pub enum Channel {
     Silence,
     Busy,
     Collision,
 }
 
-#[derive(Drop)]
+#[derive(Clone, Copy)]
 pub struct Row {
     pub slot: u32,
     pub phase: Phase,

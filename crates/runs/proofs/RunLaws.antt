@@ -149,8 +149,8 @@ module _ (S : Shop) (owners : List ℕ) (table : List Message) (count : ℕ) (lo
         ∙ ap (λ (v : Verdict). marks_by v (ran_of S owners (listed stations arrivals relatives lengths (marks (take n table))) budget) (marks (take n table))) told
         ∙ ap (λ (t : List Message). marks_by (verdict whole (take count table)) (ran_of S owners (listed stations arrivals relatives lengths (marks (take n table))) budget) (marks t)) cut)
 
-    pub by-columns : (table' : List Message) → table' ≡ slotted table (sent' ++ map (λ m. m.sent) (drop n table)) → TableRan S owners table count log budget (record { outcome = outcome; table = table' }) log'
-    by-columns table' e =
+    pub by_columns : (table' : List Message) → table' ≡ slotted table (sent' ++ map (λ m. m.sent) (drop n table)) → TableRan S owners table count log budget (record { outcome = outcome; table = table' }) log'
+    by_columns table' e =
         let ms : List Message = take count table in
         let K : List Message = listed stations arrivals relatives lengths (marks (take n table)) in
         record {
@@ -171,7 +171,7 @@ module _ (S : Shop) (owners : List ℕ) (table : List Message) (count : ℕ) (lo
       let ms : List Message = take n table in
       let Q : RunPromise S owners (stations_of ms) (arrivals_of ms) (relatives_of ms) (lengths_of ms) (marks ms) log budget outcome sent' log' =
       subst (λ (t : List Message). RunPromise S owners (stations_of ms) (arrivals_of ms) (relatives_of t) (lengths_of ms) (marks ms) log budget outcome sent' log') cut' P in
-      by-columns n (stations_of ms) (arrivals_of ms) (relatives_of ms) (lengths_of ms) Q cut (ap (λ (k : ℕ). drop k table) en) true (le-leb count 512 h)
+      by_columns n (stations_of ms) (arrivals_of ms) (relatives_of ms) (lengths_of ms) Q cut (ap (λ (k : ℕ). drop k table) en) true (le-leb count 512 h)
       (ap (λ (b : Bool). verdict b (listed (stations_of ms) (arrivals_of ms) (relatives_of ms) (lengths_of ms) (marks ms))) (columns_same ms) ∙ ap (verdict true) (listed_columns ms ∙ cut))
       (λ g. listed_columns ms ∙ cut)
       table' e
@@ -184,7 +184,7 @@ module _ (S : Shop) (owners : List ℕ) (table : List Message) (count : ℕ) (lo
       let ms : List Message = take n table in
       let none : length (relatives_of (take w table)) ≡ 0 = length-map (take w table) (λ m. m.relative) ∙ ap (λ (k : ℕ). length (take k table)) ew in
       let all : length (stations_of ms) ≡ 512 = length-map ms (λ m. m.station) ∙ length-take-le n table (omega (arith, long, en)) ∙ en in
-      by-columns n (stations_of ms) (arrivals_of ms) (relatives_of (take w table)) (lengths_of ms) P
+      by_columns n (stations_of ms) (arrivals_of ms) (relatives_of (take w table)) (lengths_of ms) P
       (take_past n count table (omega (arith, long, en)) (omega (arith, long, h)))
       (drop_past n count table (omega (arith, long, en)) (omega (arith, long, h)))
       false (lt-leb count 512 h)
@@ -198,7 +198,7 @@ module _ (S : Shop) (owners : List ℕ) (table : List Message) (count : ℕ) (lo
       → stations ≡ stations_of table → arrivals ≡ arrivals_of table → relatives ≡ relatives_of table → lengths ≡ lengths_of table → sent ≡ marks table
       → RunPromise S owners (mid_of 0 (n - 0) stations) (mid_of 0 (n - 0) arrivals) (mid_of 0 (w - 0) relatives) (mid_of 0 (n - 0) lengths) (mid_of 0 (n - 0) sent) log budget outcome sent' log'
       → (table' : List Message) → table' ≡ slotted table (put_mid 0 (n - 0) sent sent') → TableRan S owners table count log budget (record { outcome = outcome; table = table' }) log'
-  ran_table n w en ew stations arrivals relatives lengths sent es ea er el et P table' e = by-limit (le_or_lt count 512)
+  ran_table n w en ew stations arrivals relatives lengths sent es ea er el et P table' e = by_limit (le_or_lt count 512)
     where
       parts : RunPromise S owners (stations_of (take n table)) (arrivals_of (take n table)) (relatives_of (take w table)) (lengths_of (take n table)) (marks (take n table)) log budget outcome sent' log'
       parts =
@@ -217,6 +217,6 @@ module _ (S : Shop) (owners : List ℕ) (table : List Message) (count : ℕ) (lo
       stored : table' ≡ slotted table (sent' ++ marks (drop n table))
       stored = e ∙ ap (λ (x : List ℕ). slotted table (put_mid 0 (n - 0) x sent')) et ∙ ap (λ (x : List ℕ). slotted table (sent' ++ x)) (post_drop (λ m. m.sent) n table)
 
-      by-limit : (count ≤ 512) ⊎ (512 < count) → TableRan S owners table count log budget (record { outcome = outcome; table = table' }) log'
-      by-limit (inr h) = many h n w (omega (arith, en)) (ew ∙ sym (whole_many count h)) parts table' stored
-      by-limit (inl h) = few h n w (omega (arith, en)) (ew ∙ sym (whole_few count h)) parts table' stored
+      by_limit : (count ≤ 512) ⊎ (512 < count) → TableRan S owners table count log budget (record { outcome = outcome; table = table' }) log'
+      by_limit (inr h) = many h n w (omega (arith, en)) (ew ∙ sym (whole_many count h)) parts table' stored
+      by_limit (inl h) = few h n w (omega (arith, en)) (ew ∙ sym (whole_few count h)) parts table' stored

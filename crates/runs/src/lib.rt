@@ -1,6 +1,7 @@
 // Runs: a run over a table of records, of which the first `count` are the list (docs/RULES.md, section 10).
 // Each field is copied into a list of numbers, the run is made on these, and the slots of sending are copied back.
 // Uses refusals, rows, trees, messages, phases, contention, inputs, events and wire.
+#![tactic(auto)]
 ghost use Rattle.std.specs.Prelude.{◌≡◌, min, ◌≤◌};
 ghost use Rattle.runs.specs.Slots.{slotted};
 ghost use Rattle.runs.specs.Work.{ColumnsOf, whole_of, TableRan};
@@ -10,7 +11,7 @@ use phases::Shop;
 use wire::Outcome;
 
 // The fields of a table of records, each by itself.
-#[derive(Drop)]
+#[derive(Clone, Copy)]
 struct Columns {
     stations: [u32; 512],
     arrivals: [u32; 512],
@@ -20,7 +21,7 @@ struct Columns {
 }
 
 // How the run ended, and the table with the slots of sending.
-#[derive(Drop)]
+#[derive(Clone, Copy)]
 pub struct Ran {
     pub outcome: Outcome,
     pub table: [Message; 512],

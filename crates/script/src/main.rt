@@ -1,6 +1,7 @@
 // Script: what a shop's evening looks like. Four messages are queued and run, a station is withdrawn, its places are
 // queued anew, and the list is run again. What it prints is held to docs/RULES.md by the file stdout.
 // Uses refusals, messages, phases, wire, withdrawals and shop.
+#![tactic(auto)]
 ghost use Rattle.shop.specs.Promise.{WithdrawalPromise, ShopPromise};
 
 use messages::Message;
@@ -12,14 +13,14 @@ use withdrawals::Withdrawal;
 const STDOUT: i32 = 1;
 
 // A list of four messages, and the answer to a withdrawal from it.
-#[derive(Drop)]
+#[derive(Clone, Copy)]
 struct Left {
     answer: Withdrawal,
     list: [Message; 4],
 }
 
 // A list of four messages, and how a run over it ended.
-#[derive(Drop)]
+#[derive(Clone, Copy)]
 struct Round {
     outcome: Outcome,
     list: [Message; 4],

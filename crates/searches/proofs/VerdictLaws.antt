@@ -28,8 +28,8 @@ module _ (m t : ℕ) (leaves : List ℕ) (room : ℕ) where
   no_tree r e = rw (← e) refl
 
   module _ (tree : Granted ≡ tree_verdict m t) where
-    pub wrong-length : (length leaves ≡ t → ⊥) → Refused LeafList ≡ search_verdict m t leaves room
-    wrong-length f = rw (← tree, ne_eqb (length leaves) t f) refl
+    pub wrong_length : (length leaves ≡ t → ⊥) → Refused LeafList ≡ search_verdict m t leaves room
+    wrong_length f = rw (← tree, ne_eqb (length leaves) t f) refl
 
     module _ (e : length leaves ≡ t) where
       pub no_bits : all_bits leaves ≡ false → Refused LeafByte ≡ search_verdict m t leaves room
@@ -39,8 +39,8 @@ module _ (m t : ℕ) (leaves : List ℕ) (room : ℕ) where
         pub no_room : room < rows_room m t → Refused LogRoom ≡ search_verdict m t leaves room
         no_room h = rw (← tree, eq-eqb (length leaves) t e, bits, lt-leb (rows_room m t) room h) refl
 
-        pub room-enough : rows_room m t ≤ room → Granted ≡ search_verdict m t leaves room
-        room-enough h = rw (← tree, eq-eqb (length leaves) t e, bits, le-leb (rows_room m t) room h) refl
+        pub room_enough : rows_room m t ≤ room → Granted ≡ search_verdict m t leaves room
+        room_enough h = rw (← tree, eq-eqb (length leaves) t e, bits, le-leb (rows_room m t) room h) refl
 
 -- what a granted search may rely on
 pub record Sound (m t : ℕ) (leaves : List ℕ) (room : ℕ) : Type 0 where
@@ -79,8 +79,8 @@ module _ (m t : ℕ) (leaves log : List ℕ) where
     ok : Sound m t leaves (length log)
     ok = sound m t leaves (length log) e
 
-    pub root-ready : VisitReady leaves log m 0 t fresh
-    root-ready = record {
+    pub root_ready : VisitReady leaves log m 0 t fresh
+    root_ready = record {
       height = suc ok.tree.under;
       width = ok.tree.leaves;
       branches = ok.tree.tree.branches;

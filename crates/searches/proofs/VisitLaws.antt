@@ -137,8 +137,8 @@ module _ (leaves log : List ℕ) (m a w : ℕ) (t : Tally) (pre : VisitReady lea
     abbrev Now : ℕ → Tally → List ℕ → Type 0
     Now = Kept leaves m a (w / m) r₀ log₀
 
-    pub next-ready : (j : ℕ) (r : Tally) (log₁ : List ℕ) → j < m → Now j r log₁ → VisitReady leaves log₁ m (a + j * (w / m)) (w / m) r
-    next-ready j r log₁ h kept =
+    pub next_ready : (j : ℕ) (r : Tally) (log₁ : List ℕ) → j < m → Now j r log₁ → VisitReady leaves log₁ m (a + j * (w / m)) (w / m) r
+    next_ready j r log₁ h kept =
         let n : ℕ = under.under in
         let e : w / m ≡ m ^ n = under.width in
         let so = kept.2 n e in
@@ -180,8 +180,8 @@ module _ (leaves log : List ℕ) (m a w : ℕ) (t : Tally) (pre : VisitReady lea
           so one),
     )
 
-    pub kept-all : (j : ℕ) (r : Tally) (log₁ : List ℕ) → m ≤ j → Now j r log₁ → Visited leaves m a w t log r log₁
-    kept-all j r log₁ done kept n e =
+    pub kept_all : (j : ℕ) (r : Tally) (log₁ : List ℕ) → m ≤ j → Now j r log₁ → Visited leaves m a w t log r log₁
+    kept_all j r log₁ done kept n e =
         let B : Below m n w = below m n w pre.branches wide e in
         let k : ℕ = B.under in
         let all : j ≡ m = omega (arith, kept.0) in

@@ -2,6 +2,7 @@
 // (docs/RULES.md, section 5). `search` is the public call: it takes whatever it is given and refuses what is bad.
 // The rest visits one subtree at a time, as the definition does.
 // Uses refusals, rows and trees.
+#![tactic(auto)]
 ghost use Rattle.std.specs.Prelude.{◌≡◌, ◌+◌, ◌≤◌, length, [], ◌∷◌};
 ghost use Rattle.trees.specs.Shape.{Tree, rows_room};
 ghost use Rattle.trees.specs.Search.{all_bits, active_in, bare_row, silent, colliding};
@@ -13,7 +14,7 @@ use refusals::{Refusal, Verdict};
 use rows::{Channel, Phase, Row};
 
 // What a bare search answers.
-#[derive(Drop)]
+#[derive(Clone, Copy)]
 pub enum Found {
     Searched {
         rows: u32,
@@ -24,7 +25,7 @@ pub enum Found {
 }
 
 // How many active leaves a subtree has, as far as the wire can tell: the one leaf is heard.
-#[derive(Drop)]
+#[derive(Clone, Copy)]
 enum Seen {
     Nobody,
     One(u16),
@@ -32,7 +33,7 @@ enum Seen {
 }
 
 // What has been written so far.
-#[derive(Drop)]
+#[derive(Clone, Copy)]
 struct Tally {
     rows: u32,
     silences: u32,

@@ -115,18 +115,18 @@ module _ (S : Shop) (owners : List ℕ) (ys : List Message) (log : List ℕ) (bu
       (ask (fits && all_fit S.stations ys) Messages (budget_verdict budget (length log)))))
 
   told : verdict (leb count 512) front ≡ verdict true ys
-  told = by-limit (le_or_lt count 512)
+  told = by_limit (le_or_lt count 512)
     where
-      by-limit : (count ≤ 512) ⊎ (512 < count) → verdict (leb count 512) front ≡ verdict true ys
-      by-limit (inl h) = ap (λ (b : Bool). verdict b front) (le-leb count 512 h) ∙ ap (verdict true) (take_loaded ys h)
-      by-limit (inr h) = ap (λ (b : Bool). verdict b front) (lt-leb count 512 h) ∙ sym (ap verdict_by (lt-leb count 512 h))
+      by_limit : (count ≤ 512) ⊎ (512 < count) → verdict (leb count 512) front ≡ verdict true ys
+      by_limit (inl h) = ap (λ (b : Bool). verdict b front) (le-leb count 512 h) ∙ ap (verdict true) (take_loaded ys h)
+      by_limit (inr h) = ap (λ (b : Bool). verdict b front) (lt-leb count 512 h) ∙ sym (ap verdict_by (lt-leb count 512 h))
 
   same : verdict true ys ≡ Granted → front ≡ ys
-  same g = by-limit (le_or_lt count 512)
+  same g = by_limit (le_or_lt count 512)
     where
-      by-limit : (count ≤ 512) ⊎ (512 < count) → front ≡ ys
-      by-limit (inl h) = take_loaded ys h
-      by-limit (inr h) = many_denied S owners ys budget (length log) (sym (ap verdict_by (lt-leb count 512 h)) ∙ g)
+      by_limit : (count ≤ 512) ⊎ (512 < count) → front ≡ ys
+      by_limit (inl h) = take_loaded ys h
+      by_limit (inr h) = many_denied S owners ys budget (length log) (sym (ap verdict_by (lt-leb count 512 h)) ∙ g)
 
   after : (v : Verdict) → (v ≡ Granted → front ≡ ys)
       → laid_over ys (messages_by v (ran_of S owners front budget) front ++ drop count (loaded ys)) ≡ messages_by v (ran_of S owners ys budget) ys

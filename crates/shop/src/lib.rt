@@ -1,6 +1,7 @@
 // Shop: the calls that a shop script makes, over its lent list of messages (docs/RULES.md, sections 10 and 11).
 // Each copies the list into a table, has the table worked on, and copies it back: no call decides anything itself.
 // Uses refusals, trees, messages, records, withdrawals, phases, inputs, wire and runs.
+#![tactic(auto)]
 ghost use Rattle.shop.specs.Promise.{WithdrawalPromise, ShopPromise};
 
 use messages::Message;

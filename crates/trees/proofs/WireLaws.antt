@@ -203,8 +203,8 @@ module _ {S : Type 0} (rule : Rule S) (m n : ℕ) (two : 2 ≤ m) (leaf : (s : S
         (others j (suc i) r.1 (omega arith)))
 
     -- THE CHILDREN OF A NODE, as after a collision in it
-    pub children-follow : (s : S) → Follows (m * nodes m h) a (m ^ h) s (a + m ^ suc h) (children (visit rule m h) (m ^ h) m a s)
-    children-follow s =
+    pub children_follow : (s : S) → Follows (m * nodes m h) a (m ^ h) s (a + m ^ suc h) (children (visit rule m h) (m ^ h) m a s)
+    children_follow s =
         let p : suc (pred m) ≡ m = suc-pred-eq_of_pos (omega arith) in
         let z : a + 0 * m ^ h ≡ a = omega (arith, zero-mul (m ^ h)) in
         rw (pow-succ' m h)
@@ -237,7 +237,7 @@ module _ {S : Type 0} (rule : Rule S) (m n : ℕ) (two : 2 ≤ m) (leaf : (s : S
       go : Each h → (d : Bool) → (rule s a (m ^ suc h)).down ≡ d → Follows (nodes m (suc h)) a (m ^ suc h) s (a + m ^ suc h) (visit rule m (suc h) a s)
       go each false e = rw (e, visit) (finished (nodes m (suc h)) a (m ^ suc h) s (omega arith) e)
       go each true e = rw (e, visit) (collided h a s (children (visit rule m h) (m ^ h) m a (rule s a (m ^ suc h)).after) e
-          (children-follow h a hn da room each (rule s a (m ^ suc h)).after))
+          (children_follow h a hn da room each (rule s a (m ^ suc h)).after))
 
   -- behind the last leaf nothing follows
   ended : (k b : ℕ) (s : S) → m ^ n ≤ b → resume k b s ≡ ([], s)

@@ -23,8 +23,8 @@ use Rattle.events.specs.Work.{StepReady, Stepped}
 use Rattle.wire.specs.declared.Ended.{Ended}
 use Rattle.wire.specs.Run.{World, world_after, event_in, run}
 use Rattle.wire.specs.Work.{RunReady, Ran, begin}
-use Rattle.wire.proofs.StepLaws.{Going, contend_ready, step-ready, state-is, row_is, messages-are, going_on}
-use Rattle.wire.proofs.RunLaws.{Running, running_start, running-next, running-done, running-spent}
+use Rattle.wire.proofs.StepLaws.{Going, contend_ready, step_ready, state_is, row_is, messages_are, going_on}
+use Rattle.wire.proofs.RunLaws.{Running, running_start, running_next, running_done, running_spent}
 
 -- the world of a state and of slices
 abbrev pub world_of : List ℕ → List ℕ → List ℕ → List ℕ → List ℕ → State → World
@@ -55,8 +55,8 @@ module _ (S : Shop) (table stations arrivals relatives lengths sent₀ log₀ : 
     W : World
     W = world_of stations arrivals relatives lengths sent σ
 
-    marks-tell : all_sent (listed stations arrivals relatives lengths sent) ≡ all_marked sent
-    marks-tell = all_sent_listed stations arrivals relatives lengths sent turn.going.long.sent_too
+    marks_tell : all_sent (listed stations arrivals relatives lengths sent) ≡ all_marked sent
+    marks_tell = all_sent_listed stations arrivals relatives lengths sent turn.going.long.sent_too
 
     ran : run S table budget (begin stations arrivals relatives lengths sent₀) ≡ (turn.running.rows, world_of stations arrivals relatives lengths sent σ)
         → Ran S table stations arrivals relatives lengths sent₀ log₀ budget (record { state = σ; events = events }) sent log
@@ -69,35 +69,35 @@ module _ (S : Shop) (table stations arrivals relatives lengths sent₀ log₀ : 
       rows = turn.running.logged ∙ sym (ap (λ (r : List Row × World). over log₀ 0 (log_bytes r.0)) e);
     }
 
-    pub turn-done : all_marked sent ≡ true → Ran S table stations arrivals relatives lengths sent₀ log₀ budget (record { state = σ; events = events }) sent log
-    turn-done e =
-        ran (running-done S table (begin stations arrivals relatives lengths sent₀) budget log₀ (world_of stations arrivals relatives lengths sent σ) events log turn.running turn.few (marks-tell ∙ e))
+    pub turn_done : all_marked sent ≡ true → Ran S table stations arrivals relatives lengths sent₀ log₀ budget (record { state = σ; events = events }) sent log
+    turn_done e =
+        ran (running_done S table (begin stations arrivals relatives lengths sent₀) budget log₀ (world_of stations arrivals relatives lengths sent σ) events log turn.running turn.few (marks_tell ∙ e))
 
-    pub turn-spent : budget ≤ events → Ran S table stations arrivals relatives lengths sent₀ log₀ budget (record { state = σ; events = events }) sent log
-    turn-spent h =
-        ran (running-spent S table (begin stations arrivals relatives lengths sent₀) budget log₀ (world_of stations arrivals relatives lengths sent σ) events log turn.running (omega (arith, turn.few)))
+    pub turn_spent : budget ≤ events → Ran S table stations arrivals relatives lengths sent₀ log₀ budget (record { state = σ; events = events }) sent log
+    turn_spent h =
+        ran (running_spent S table (begin stations arrivals relatives lengths sent₀) budget log₀ (world_of stations arrivals relatives lengths sent σ) events log turn.running (omega (arith, turn.few)))
 
     module _ (more : events < budget) where
       early : events < 1000000
       early = omega (arith, ready.few)
 
-      pub turn-contends : Open S table σ
-      turn-contends = contend_ready S ready.sound table stations arrivals relatives lengths sent ready.places σ events early turn.going
+      pub turn_contends : Open S table σ
+      turn_contends = contend_ready S ready.sound table stations arrivals relatives lengths sent ready.places σ events early turn.going
 
       module _ (t : Tally) (is : t ≡ tally_of (contenders S table (listed stations arrivals relatives lengths sent) σ)) where
-        pub turn-steps : StepReady S lengths sent t σ
-        turn-steps = step-ready S ready.sound table stations arrivals relatives lengths sent ready.places σ events early turn.going t is
+        pub turn_steps : StepReady S lengths sent t σ
+        turn_steps = step_ready S ready.sound table stations arrivals relatives lengths sent ready.places σ events early turn.going t is
 
-        pub turn-next : (r : Step) (sent' log' : List ℕ) → all_marked sent ≡ false → Stepped S lengths sent t σ r sent' → length sent' ≡ length sent → length log' ≡ length log
+        pub turn_next : (r : Step) (sent' log' : List ℕ) → all_marked sent ≡ false → Stepped S lengths sent t σ r sent' → length sent' ≡ length sent → length log' ≡ length log
             → log' ≡ over log (16 * events) (row_bytes r.row) → At sent' log' r.state (events + 1)
-        turn-next r sent' log' unsent s same long w =
+        turn_next r sent' log' unsent s same long w =
             let sound = ready.sound in
             let places = ready.places in
-            let state = state-is S sound table stations arrivals relatives lengths sent places σ events early turn.going t is r sent' s in
+            let state = state_is S sound table stations arrivals relatives lengths sent places σ events early turn.going t is r sent' s in
             let row = row_is S sound table stations arrivals relatives lengths sent places σ events early turn.going t is r sent' s in
-            let messages = messages-are S sound table stations arrivals relatives lengths sent places σ events early turn.going t is r sent' s in
-            let next = running-next S table (begin stations arrivals relatives lengths sent₀) budget log₀ (world_of stations arrivals relatives lengths sent σ) events log turn.running
-            (marks-tell ∙ unsent) more ready.room log' (w ∙ ap (λ (x : Row). over log (16 * events) (row_bytes x)) row) in
+            let messages = messages_are S sound table stations arrivals relatives lengths sent places σ events early turn.going t is r sent' s in
+            let next = running_next S table (begin stations arrivals relatives lengths sent₀) budget log₀ (world_of stations arrivals relatives lengths sent σ) events log turn.running
+            (marks_tell ∙ unsent) more ready.room log' (w ∙ ap (λ (x : Row). over log (16 * events) (row_bytes x)) row) in
             record {
               few = omega arith;
               kept = long ∙ turn.kept;

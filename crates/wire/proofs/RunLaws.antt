@@ -86,9 +86,9 @@ module _ (S : Shop) (table : List ℕ) (W₀ : World) (budget : ℕ) (log₀ : L
   }
 
   module _ (W : World) (events : ℕ) (log : List ℕ) (r : Running S table W₀ budget log₀ W events log) where
-    pub running-next : all_sent W.messages ≡ false → events < budget → 16 * budget ≤ length log₀ → (log' : List ℕ)
+    pub running_next : all_sent W.messages ≡ false → events < budget → 16 * budget ≤ length log₀ → (log' : List ℕ)
         → log' ≡ over log (16 * events) (row_bytes (event_in S table W).row) → Running S table W₀ budget log₀ (world_after (event_in S table W)) (events + 1) log'
-    running-next unsent more room log' w =
+    running_next unsent more room log' w =
         let row : Row = (event_in S table W).row in
         record {
           rows = r.rows ++ (row ∷ []);
@@ -103,8 +103,8 @@ module _ (S : Shop) (table : List ℕ) (W₀ : World) (budget : ℕ) (log₀ : L
     ends : (k : ℕ) → events + k ≡ budget → run S table k W ≡ ([], W) → run S table budget W₀ ≡ (r.rows, W)
     ends k e f = r.ahead k e ∙ ap (lead r.rows) f ∙ ap (λ (l : List Row). (l, W)) (append-nil r.rows)
 
-    pub running-done : events ≤ budget → all_sent W.messages ≡ true → run S table budget W₀ ≡ (r.rows, W)
-    running-done h e = ends (budget - events) (omega arith) (run_done S table (budget - events) W e)
+    pub running_done : events ≤ budget → all_sent W.messages ≡ true → run S table budget W₀ ≡ (r.rows, W)
+    running_done h e = ends (budget - events) (omega arith) (run_done S table (budget - events) W e)
 
-    pub running-spent : events ≡ budget → run S table budget W₀ ≡ (r.rows, W)
-    running-spent e = ends 0 (omega arith) refl
+    pub running_spent : events ≡ budget → run S table budget W₀ ≡ (r.rows, W)
+    running_spent e = ends 0 (omega arith) refl

@@ -102,8 +102,8 @@ module _ (S : Shop) (sound : Sound S) (table stations arrivals relatives lengths
     small : t.message < 65536
     small = ⊎_elim (λ h. omega (arith, inside h, g.long.few)) (λ h. omega (arith, last, ap last_of (no_more (contenders S table (listed stations arrivals relatives lengths sent) σ) (omega (arith, counts))))) (le_or_lt 1 t.count)
 
-    pub step-ready : StepReady S lengths sent t σ
-    step-ready = record {
+    pub step_ready : StepReady S lengths sent t σ
+    step_ready = record {
       sound = sound;
       within = g.within;
       past = omega (arith, g.past);
@@ -120,46 +120,46 @@ module _ (S : Shop) (sound : Sound S) (table stations arrivals relatives lengths
     E = event S table (listed stations arrivals relatives lengths sent) σ
 
     -- its messages are those of the marked slice
-    marks-are : (c : Channel) (i slot : ℕ) → (c ≡ Busy → i < length stations)
+    marks_are : (c : Channel) (i slot : ℕ) → (c ≡ Busy → i < length stations)
         → listed stations arrivals relatives lengths (marked_by c sent i slot) ≡ marked c (listed stations arrivals relatives lengths sent) i slot
-    marks-are Silence i slot h = refl
-    marks-are Busy i slot h = listed_set stations arrivals relatives lengths sent i slot (h refl) g.long.sent_too
-    marks-are Collision i slot h = refl
+    marks_are Silence i slot h = refl
+    marks_are Busy i slot h = listed_set stations arrivals relatives lengths sent i slot (h refl) g.long.sent_too
+    marks_are Collision i slot h = refl
 
-    busy-one : (n : ℕ) → channel_of n ≡ Busy → n ≡ 1
-    busy-one zero e = let z : ◌≡◌ {A = ℕ} 0 1 = cc in absurd (omega arith)
-    busy-one (suc zero) e = refl
-    busy-one (suc (suc n)) e = let z : ◌≡◌ {A = ℕ} 0 1 = cc in absurd (omega arith)
+    busy_one : (n : ℕ) → channel_of n ≡ Busy → n ≡ 1
+    busy_one zero e = let z : ◌≡◌ {A = ℕ} 0 1 = cc in absurd (omega arith)
+    busy_one (suc zero) e = refl
+    busy_one (suc (suc n)) e = let z : ◌≡◌ {A = ℕ} 0 1 = cc in absurd (omega arith)
 
     sender : channel_of t.count ≡ Busy → t.message < length stations
-    sender e = inside (omega (arith, busy-one t.count e))
+    sender e = inside (omega (arith, busy_one t.count e))
 
     -- the marked slice keeps what the run needs
-    marked-long : (c : Channel) (i slot : ℕ) → SameLength stations arrivals relatives lengths (marked_by c sent i slot)
-    marked-long Silence i slot = g.long
-    marked-long Busy i slot = same_set stations arrivals relatives lengths sent i slot g.long
-    marked-long Collision i slot = g.long
+    marked_long : (c : Channel) (i slot : ℕ) → SameLength stations arrivals relatives lengths (marked_by c sent i slot)
+    marked_long Silence i slot = g.long
+    marked_long Busy i slot = same_set stations arrivals relatives lengths sent i slot g.long
+    marked_long Collision i slot = g.long
 
-    marked-timed : (c : Channel) (i slot : ℕ) → (c ≡ Busy → i < length stations) → TimedList (listed stations arrivals relatives lengths (marked_by c sent i slot))
-    marked-timed Silence i slot h = g.timed
-    marked-timed Busy i slot h = timed_listed_set stations arrivals relatives lengths sent i slot (h refl) g.long.sent_too g.timed
-    marked-timed Collision i slot h = g.timed
+    marked_timed : (c : Channel) (i slot : ℕ) → (c ≡ Busy → i < length stations) → TimedList (listed stations arrivals relatives lengths (marked_by c sent i slot))
+    marked_timed Silence i slot h = g.timed
+    marked_timed Busy i slot h = timed_listed_set stations arrivals relatives lengths sent i slot (h refl) g.long.sent_too g.timed
+    marked_timed Collision i slot h = g.timed
 
     module _ (r : Step) (sent' : List ℕ) (s : Stepped S lengths sent t σ r sent') where
       used : ℕ
       used = used_by (channel_of t.count) lengths t.message
 
-      used-same : used_by (channel_of t.count) (map (λ (m : Message). m.length) (listed stations arrivals relatives lengths sent)) t.message ≡ used_by (channel_of t.count) lengths t.message
-      used-same = ap (λ (x : List ℕ). used_by (channel_of t.count) x t.message) (listed_lengths stations arrivals relatives lengths sent g.long.lengths_too)
+      used_same : used_by (channel_of t.count) (map (λ (m : Message). m.length) (listed stations arrivals relatives lengths sent)) t.message ≡ used_by (channel_of t.count) lengths t.message
+      used_same = ap (λ (x : List ℕ). used_by (channel_of t.count) x t.message) (listed_lengths stations arrivals relatives lengths sent g.long.lengths_too)
 
-      pub state-is : r.state ≡ E.state
-      state-is = s.state ∙ rw (← used-same, is)
+      pub state_is : r.state ≡ E.state
+      state_is = s.state ∙ rw (← used_same, is)
 
       pub row_is : r.row ≡ E.row
-      row_is = s.row ∙ rw (← used-same, is)
+      row_is = s.row ∙ rw (← used_same, is)
 
-      pub messages-are : listed stations arrivals relatives lengths sent' ≡ E.messages
-      messages-are = ap (listed stations arrivals relatives lengths) s.marks ∙ marks-are (channel_of t.count) t.message σ.slot sender ∙ rw is
+      pub messages_are : listed stations arrivals relatives lengths sent' ≡ E.messages
+      messages_are = ap (listed stations arrivals relatives lengths) s.marks ∙ marks_are (channel_of t.count) t.message σ.slot sender ∙ rw is
 
       pub going_on : Going S stations arrivals relatives lengths sent' r.state (events + 1)
       going_on =
@@ -168,8 +168,8 @@ module _ (S : Shop) (sound : Sound S) (table stations arrivals relatives lengths
           let slot : ℕ = σ.slot + used_by c lengths t.message in
           let R : ℕ = 9000000 * events + 1000 in
           record {
-            long = rw s.marks (marked-long c t.message σ.slot);
-            timed = rw s.marks (marked-timed c t.message σ.slot sender);
+            long = rw s.marks (marked_long c t.message σ.slot);
+            timed = rw s.marks (marked_timed c t.message σ.slot sender);
             within = rw s.state (after_within S sound slot σ c g.within);
             past = rw s.state (omega (arith, after_reference S sound R slot σ c g.within (omega (arith, g.past)) (omega (arith, g.soon))));
             soon = rw s.state (omega (arith, after_slot S slot σ c, g.soon));

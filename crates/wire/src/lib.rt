@@ -1,6 +1,7 @@
 // Wire: the run of a shop, slot by slot, on plain numbers and lent slices (docs/RULES.md, section 10).
 // `run` is the public call: it takes whatever it is given and refuses what is bad.
 // Uses refusals, rows, trees, messages, phases, contention, inputs and events.
+#![tactic(auto)]
 ghost use Rattle.std.specs.Prelude.{◌≡◌, ◌*◌, ◌≤◌, length};
 ghost use Rattle.messages.specs.Lists.{listed, SameLength, TimedList, Timed};
 ghost use Rattle.wire.specs.Run.{is_sent, is_late, sent_count, late_count};
@@ -12,7 +13,7 @@ use phases::{Shop, Standing, State};
 use refusals::{Refusal, Verdict};
 
 // The closing figures: events, present slot, messages sent, and how many of them ended late.
-#[derive(Drop)]
+#[derive(Clone, Copy)]
 pub struct Figures {
     pub events: u32,
     pub slot: u32,
@@ -21,7 +22,7 @@ pub struct Figures {
 }
 
 // How a run ends: every message sent, or the budget spent; or the input was refused.
-#[derive(Drop)]
+#[derive(Clone, Copy)]
 pub enum Outcome {
     Done(Figures),
     Spent(Figures),
@@ -29,14 +30,14 @@ pub enum Outcome {
 }
 
 // Messages sent, and how many of them ended late.
-#[derive(Drop)]
+#[derive(Clone, Copy)]
 struct Counts {
     sent: u32,
     late: u32,
 }
 
 // Where a run stopped.
-#[derive(Drop)]
+#[derive(Clone, Copy)]
 struct Ended {
     state: State,
     events: u32,

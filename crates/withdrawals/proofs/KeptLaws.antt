@@ -69,8 +69,8 @@ module _ (s : ℕ) (table : List Message) (i : ℕ) (h : i < length table) where
     pub kept_same : kept_of s (take (i + 1) table) ≡ kept_of s (take i table)
     kept_same = kept_next ∙ ap (λ (t : Bool). kept_of s (take i table) ++ kept_by t (get_or table i blank) []) (eq-eqb (get_or table i blank).station s e) ∙ append-nil (kept_of s (take i table))
 
-    pub count-more : withdrawn_count s (take (i + 1) table) ≡ withdrawn_count s (take i table) + 1
-    count-more = count_next ∙ ap (λ (t : Bool). withdrawn_count s (take i table) + count_by t 0) (eq-eqb (get_or table i blank).station s e)
+    pub count_more : withdrawn_count s (take (i + 1) table) ≡ withdrawn_count s (take i table) + 1
+    count_more = count_next ∙ ap (λ (t : Bool). withdrawn_count s (take i table) + count_by t 0) (eq-eqb (get_or table i blank).station s e)
 
   -- of another: it is kept
   module _ (f : (get_or table i blank).station ≡ s → ⊥) where

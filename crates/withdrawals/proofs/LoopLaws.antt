@@ -22,7 +22,7 @@ use Rattle.withdrawals.specs.declared.Cleared.{Cleared}
 use Rattle.withdrawals.specs.Withdrawal.{kept_of, withdrawn_count, after_withdrawal}
 use Rattle.withdrawals.specs.Answer.{withdrawal_verdict, figures, figures_by, list_by}
 use Rattle.withdrawals.specs.Work.{Packed, Wiped, TableWithdrawn}
-use Rattle.withdrawals.proofs.KeptLaws.{kept_same, count-more, kept_more, count_same}
+use Rattle.withdrawals.proofs.KeptLaws.{kept_same, count_more, kept_more, count_same}
 
 -- ---- the first loop
 
@@ -61,7 +61,7 @@ module _ (s : ℕ) (table : List Message) (i : ℕ) (b : List Message) (kept wit
       let own : (get_or table i blank).station ≡ s = ap (λ (m : Message). m.station) (sym reads) ∙ e in
       record {
         keeps = h.keeps ∙ ap length (sym (kept_same s table i l own));
-        counts = ap (λ (g : ℕ). g + 1) h.counts ∙ sym (count-more s table i l own);
+        counts = ap (λ (g : ℕ). g + 1) h.counts ∙ sym (count_more s table i l own);
         sums = omega (arith, h.sums);
         front = h.front ∙ ap (λ (x : List Message). x ++ drop kept table) (sym (kept_same s table i l own));
       }
@@ -111,8 +111,8 @@ module _ (table : List Message) (start : ℕ) where
       fore : List Message
       fore = take start table ++ replicate (k - start) blank
 
-      fore-length : length fore ≡ k
-      fore-length =
+      fore_length : length fore ≡ k
+      fore_length =
           length-append (take start table) (replicate (k - start) blank)
           ∙ ap (λ (j : ℕ). j + length (replicate (k - start) blank)) (length-take-le start table (omega (arith, h.onward, l)))
           ∙ ap (λ (j : ℕ). start + j) (length-replicate (k - start) blank)
@@ -128,7 +128,7 @@ module _ (table : List Message) (start : ℕ) where
       laid =
           ap (λ (x : List Message). set x k blank)
           (h.zeros ∙ sym (append_assoc (take start table) (replicate (k - start) blank) (drop k table)) ∙ ap (λ (x : List Message). fore ++ x) (drop-cons table k blank l))
-          ∙ set_at fore (get_or table k blank) (drop (suc k) table) blank k fore-length
+          ∙ set_at fore (get_or table k blank) (drop (suc k) table) blank k fore_length
           ∙ append_assoc (take start table) (replicate (k - start) blank) (blank ∷ drop (suc k) table)
           ∙ ap (λ (x : List Message). take start table ++ x)
           (sym (append_assoc (replicate (k - start) blank) (blank ∷ []) (drop (suc k) table)) ∙ ap (λ (x : List Message). x ++ drop (suc k) table) one_more)

@@ -2,6 +2,7 @@
 // The core works on a table of 512 records, of which the first `count` are the list: what is kept moves to the front,
 // and the places behind it become all zero.
 // Uses refusals and messages.
+#![tactic(auto)]
 ghost use Rattle.std.specs.Prelude.{◌≡◌, ◌≤◌};
 ghost use Rattle.messages.specs.declared.Message.{Message};
 ghost use Rattle.withdrawals.specs.Answer.{withdrawal_verdict};
@@ -11,21 +12,21 @@ use messages::Message;
 use refusals::{Refusal, Verdict};
 
 // The answer to a withdrawal: how many records are kept and how many are withdrawn.
-#[derive(Drop)]
+#[derive(Clone, Copy)]
 pub enum Withdrawal {
     Withdrawn { kept: u32, withdrawn: u32 },
     Refused(Refusal),
 }
 
 // The answer, and the table after the withdrawal.
-#[derive(Drop)]
+#[derive(Clone, Copy)]
 pub struct Cleared {
     pub answer: Withdrawal,
     pub table: [Message; 512],
 }
 
 // What is kept at the front of the table, and the counts.
-#[derive(Drop)]
+#[derive(Clone, Copy)]
 struct Moved {
     kept: u32,
     withdrawn: u32,

@@ -2,6 +2,7 @@
 // active, and prints the log; then some worst counts; then two trees that are refused.
 // What it prints is held to docs/RULES.md by the file stdout, which was written from the rules and not from a run.
 // Uses refusals, searches, counts and printing.
+#![tactic(auto)]
 ghost use Rattle.std.specs.Prelude.{◌*◌, ◌≤◌, length};
 
 use counts::Count;

@@ -1,0 +1,14 @@
+-- The indices looked at so far are owned by the station, or not.
+use mathlib.Core.Path.{◌≡◌, refl, sym, ap, ◌∙◌}
+use mathlib.Core.Logic.{⊎_elim}
+use Prim.Native.Nat.{ℕ, ◌+◌, ◌-◌, ◌≤◌}
+use native.Mathlib.Omega.{arith}
+use Rattle.contention.specs.Contenders.{owns}
+use Rattle.contention.proofs.EnterLaws.{owns_here, owns_not}
+use Rattle.contention.proofs.owns_part.Given as goal
+
+abbrev pub invariant-loop-n : goal.invariant-loop-n
+invariant-loop-n l = (l.n ≤ l.width) × (l.found ≡ owns l.table l.station l.first l.n)
+
+abbrev pub decreases-loop-n : goal.decreases-loop-n
+decreases-loop-n l = l.width - l.n
