@@ -2,6 +2,7 @@
 // The functions on one message take it as a record; the list of messages is lent as a slice of numbers for each field.
 // Uses nothing.
 #![tactic(auto)]
+
 ghost use Rattle.std.specs.Prelude.{◌≡◌, ◌&&◌, ◌<◌, eqb, length, get_or, replicate};
 ghost use Rattle.messages.specs.Message.{unsent, deadline_of, waits, goes_before, blank, better};
 ghost use Rattle.messages.specs.Lists.{listed, all_marked, Timed, SameLength, TimedList, Found};

@@ -2,6 +2,7 @@
 // Every call answers with one of these or with its figures; a call's checks end in a verdict.
 // Uses nothing.
 #![tactic(auto)]
+
 ghost use Rattle.std.specs.Prelude.{◌≡◌};
 ghost use Rattle.refusals.specs.Numbers.{number_of};
 

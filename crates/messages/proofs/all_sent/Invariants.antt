@@ -1,10 +1,8 @@
 -- The slots passed so far are sent, so all are exactly if the rest is.
-use mathlib.Core.Path.{◌≡◌, refl, sym, ◌∙◌}
-use native.Mathlib.Omega.{arith}
+use mathlib.Core.Path.{◌≡◌}
 use Prim.Native.Nat.{◌≤◌, ◌-◌}
 use lib.ListN.{length, drop}
 use Rattle.messages.specs.Lists.{all_marked}
-use Rattle.messages.proofs.ListLaws.{marked_stop, marked_next, marked_end}
 use Rattle.messages.proofs.all_sent.Given as goal
 
 abbrev pub invariant-loop-i : goal.invariant-loop-i

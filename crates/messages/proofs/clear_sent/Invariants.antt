@@ -1,10 +1,8 @@
 -- After i turns the first i slots are unsent.
-use mathlib.Core.Path.{◌≡◌, refl}
-use native.Mathlib.Omega.{arith}
+use mathlib.Core.Path.{◌≡◌}
 use Prim.Native.Nat.{◌≤◌, ◌-◌}
-use lib.ListN.{length, take, replicate, length-set}
+use lib.ListN.{length, take, replicate}
 use Rattle.messages.specs.Message.{unsent}
-use Rattle.messages.proofs.ListLaws.{cleared_next, cleared_end}
 use Rattle.messages.proofs.clear_sent.Given as goal
 
 abbrev pub invariant-loop-i : goal.invariant-loop-i

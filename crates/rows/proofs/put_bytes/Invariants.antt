@@ -1,12 +1,8 @@
 -- The copy loop: after i turns the first i bytes are pasted over the log.
-use Rattle.rows.specs.Log.{over}
-use lib.Seq.{paste, paste-zero, paste-suc, take-length}
-use lib.ListN.{length, set, get_or, take, drop, length-set}
-use native.Mathlib.Numerals.{add-one}
-use native.Mathlib.Omega.{arith}
-use mathlib.Core.List.{List, ◌++◌}
-use mathlib.Core.Path.{◌≡◌, refl, sym, ◌∙◌, ap}
-use Prim.Native.Nat.{ℕ, ◌≤◌, ◌<◌, ◌-◌, ◌+◌}
+use lib.Seq.{paste}
+use lib.ListN.{length}
+use mathlib.Core.Path.{◌≡◌}
+use Prim.Native.Nat.{◌≤◌, ◌-◌}
 use Rattle.rows.proofs.put_bytes.Given as goal
 
 abbrev pub invariant-loop-i : goal.invariant-loop-i
