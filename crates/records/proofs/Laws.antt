@@ -1,10 +1,10 @@
 -- One list laid over another: its length, one record more, and all of it.
-use mathlib.Core.Path.{◌≡◌, refl, sym, ap, ◌∙◌}
-use Prim.Native.Nat.{ℕ, zero, suc, ◌<◌, ◌≤◌}
+use mathlib.Core.Path.{◌≡◌, refl, sym, ap}
+use Prim.Native.Nat.{ℕ, zero, suc, ◌<◌}
 use native.Mathlib.Nat.{le_of_suc-le-suc, not-suc-le-zero}
 use mathlib.Core.List.{List, [], ◌∷◌}
 use lib.ListN.{length, take, get_or, set}
-use lib.Seq.{set-get_or, take-nil}
+use lib.Seq.{set-get_or}
 use Rattle.messages.specs.declared.Message.{Message}
 use Rattle.records.specs.Table.{laid_over}
 

@@ -2,6 +2,7 @@
 // The functions over the lent slice are these two; what is done with the records is done in the table.
 // Uses messages.
 #![tactic(auto)]
+
 ghost use Rattle.std.specs.Prelude.{◌≡◌, set, get_or, replicate};
 ghost use Rattle.messages.specs.Message.{blank};
 ghost use Rattle.records.specs.Table.{laid_over};
@@ -50,7 +51,8 @@ pub fn load(list: &[Message]) -> [Message; 512]
     let mut table = blanks();
     let mut i = 0;
     while i < list.len() {
-        table = put(table, i, list[i]);
+        let more = put(table, i, list[i]);
+        table = more;
         i += 1;
     }
     table

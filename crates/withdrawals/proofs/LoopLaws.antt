@@ -1,6 +1,5 @@
 -- The two loops of a withdrawal, turn by turn, and what they come to; and the verdict by its tests.
-use mathlib.Core.Path.{◌≡◌, refl, sym, ap, ◌∙◌, subst}
-use mathlib.Core.Bool.{Bool, true, false}
+use mathlib.Core.Path.{◌≡◌, refl, sym, ap, ◌∙◌}
 use mathlib.Core.List.{List, [], ◌∷◌, ◌++◌, append_assoc}
 use Prim.Native.Nat.{ℕ, suc, ◌+◌, ◌-◌, ◌<◌, ◌≤◌}
 use native.Mathlib.Numerals.{add-one}
@@ -13,12 +12,10 @@ use Rattle.refusals.specs.declared.Refusal.{Refusal}
 use Rattle.refusals.specs.declared.Refusal.TheVariants.{Stations, Messages}
 use Rattle.refusals.specs.declared.Verdict.{Verdict}
 use Rattle.refusals.specs.declared.Verdict.TheVariants.{Granted, Refused as Denied}
-use Rattle.refusals.specs.Numbers.{ask}
 use Rattle.refusals.proofs.Verdicts.{ask_granted}
 use Rattle.messages.specs.declared.Message.{Message}
 use Rattle.messages.specs.Message.{blank}
 use Rattle.withdrawals.specs.declared.Withdrawal.TheVariants.{Withdrawn, Refused}
-use Rattle.withdrawals.specs.declared.Cleared.{Cleared}
 use Rattle.withdrawals.specs.Withdrawal.{kept_of, withdrawn_count, after_withdrawal}
 use Rattle.withdrawals.specs.Answer.{withdrawal_verdict, figures, figures_by, list_by}
 use Rattle.withdrawals.specs.Work.{Packed, Wiped, TableWithdrawn}

@@ -3,7 +3,7 @@
 --   kept_of station ms           the records of other stations, in their order
 --   withdrawn_count station ms   how many records are the station's
 --   after_withdrawal station ms  the list afterwards: what is kept, then a record of zeros for each record withdrawn
-use Rattle.std.specs.Prelude.{Bool, true, false, List, [], ◌∷◌, ◌++◌, ℕ, suc, eqb, replicate}
+use Rattle.std.specs.Prelude.{true, false, List, [], ◌∷◌, ◌++◌, ℕ, suc, eqb, replicate}
 use Rattle.messages.specs.declared.Message.{Message}
 use Rattle.messages.specs.Message.{blank}
 

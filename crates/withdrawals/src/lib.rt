@@ -3,6 +3,7 @@
 // and the places behind it become all zero.
 // Uses refusals and messages.
 #![tactic(auto)]
+
 ghost use Rattle.std.specs.Prelude.{◌≡◌, ◌≤◌};
 ghost use Rattle.messages.specs.declared.Message.{Message};
 ghost use Rattle.withdrawals.specs.Answer.{withdrawal_verdict};

@@ -1,11 +1,8 @@
 -- The records gone through so far: those kept are at the front, and nothing is written at or behind the one that is read.
-use mathlib.Core.Path.{◌≡◌, refl, ap, ◌∙◌, subst}
-use mathlib.Core.Logic.{⊎_elim}
-use Prim.Native.Nat.{ℕ, ◌+◌, ◌-◌, ◌≤◌}
-use native.Mathlib.Omega.{arith}
-use lib.ListN.{length, length-set}
+use mathlib.Core.Path.{◌≡◌}
+use Prim.Native.Nat.{◌+◌, ◌-◌, ◌≤◌}
+use lib.ListN.{length}
 use Rattle.withdrawals.specs.Work.{Packed}
-use Rattle.withdrawals.proofs.LoopLaws.{packed_none, packed_at, passes, moves}
 use Rattle.withdrawals.proofs.move_kept.Given as goal
 
 abbrev pub invariant-loop-i : goal.invariant-loop-i

@@ -1,10 +1,8 @@
 -- The places from the start up to the present one are all zero.
-use mathlib.Core.Path.{◌≡◌, refl, ap, ◌∙◌, subst}
-use Prim.Native.Nat.{ℕ, ◌-◌, ◌≤◌}
-use native.Mathlib.Omega.{arith}
-use lib.ListN.{length, length-set}
+use mathlib.Core.Path.{◌≡◌}
+use Prim.Native.Nat.{◌-◌, ◌≤◌}
+use lib.ListN.{length}
 use Rattle.withdrawals.specs.Work.{Wiped}
-use Rattle.withdrawals.proofs.LoopLaws.{wiped_none, wiped_next}
 use Rattle.withdrawals.proofs.wipe.Given as goal
 
 abbrev pub invariant-loop-place : goal.invariant-loop-place
