@@ -1,17 +1,17 @@
 -- What a bare search writes: how many rows, which leaves it sends, what it costs.
-use mathlib.Core.Path.{◌≡◌, refl, sym, ap, ◌∙◌, subst}
+use mathlib.Core.Path.{◌≡◌, refl, sym, ap, ◌∙◌}
 use mathlib.Core.Bool.{true, false}
 use mathlib.Core.List.{List, [], ◌∷◌, ◌++◌, append_assoc, append-nil}
-use Prim.Native.Nat.{ℕ, zero, suc, ◌+◌, ◌*◌, ◌^◌, ◌≤◌, ◌<◌}
-use native.Mathlib.Nat.{le_refl, zero-mul, suc-mul, add_comm, add-zero, add_assoc, pow-zero, pow-succ', not-suc-le-zero}
+use Prim.Native.Nat.{ℕ, zero, suc, ◌+◌, ◌*◌, ◌^◌, ◌≤◌}
+use native.Mathlib.Nat.{le_refl, zero-mul, suc-mul, add_comm, add-zero, pow-zero, pow-succ'}
 use native.Mathlib.Omega.{arith}
-use lib.ListN.{length, take, drop, length-append, length-drop, length-take}
-use lib.Seq.{length-take-le, take-add, take_all, drop-drop, take_at, drop_at}
+use lib.ListN.{length, drop, length-append, length-take}
+use lib.Seq.{take_all, take_at, drop_at}
 use Rattle.rows.specs.declared.Row.{Row}
 use Rattle.rows.specs.declared.Channel.{Channel}
 use Rattle.rows.specs.declared.Channel.TheVariants.{Silence, Busy, Collision}
 use Rattle.trees.specs.Shape.{nodes}
-use Rattle.trees.specs.Search.{Look, lead, children, visit, ones, active, active_in, bare_look, bare_rule, search_rows, total, silent, colliding, lost, silences, collisions, cost, sent_by, sent}
+use Rattle.trees.specs.Search.{lead, children, visit, ones, active, active_in, bare_look, bare_rule, search_rows, total, silent, colliding, lost, silences, collisions, cost, sent_by, sent}
 use Rattle.trees.proofs.LeafLaws.{part, part_length, part_split, length_active, active_split, ones_le}
 use Rattle.trees.proofs.Costs.{cost_for, parts_cost, part_cost}
 

@@ -1,18 +1,17 @@
 -- The shape of a tree: its height is the one power that fits, its verdict says whether there is one, and its nodes are counted.
-use mathlib.Core.Path.{◌≡◌, refl, sym, ap, ◌∙◌, subst}
-use mathlib.Core.Bool.{Bool, true, false, ◌&&◌}
-use mathlib.Core.Logic.{◌⊎◌, inl, inr, ⊎_elim}
+use mathlib.Core.Path.{◌≡◌, refl, sym, ap, ◌∙◌}
+use mathlib.Core.Bool.{Bool, true, false}
+use mathlib.Core.Logic.{⊎_elim}
 use Prim.Native.Nat.{ℕ, zero, suc, ◌+◌, ◌*◌, ◌-◌, ◌/◌, ◌^◌, ◌≤◌, ◌<◌}
 use native.Mathlib.Nat.{pow-le-pow_left, pow-le-pow_right, not-suc-le-zero, suc-ne-zero, pow-succ', pow-suc, pow-zero, mul-one, mul-add, mul_left_comm, mul-div_right, mul-le-mul_left, one-le-pow}
 use native.Mathlib.Omega.{arith}
 use lib.Dec.{ltb, eqb}
 use borrow.Author.Tests.{eqb-true, eqb-false, ltb-true, ltb-false, lt-ltb, le-ltb}
-use Rattle.refusals.specs.declared.Verdict.{Verdict}
 use Rattle.refusals.specs.declared.Verdict.TheVariants.{Granted, Refused}
 use Rattle.refusals.specs.declared.Refusal.TheVariants.{Branching, LeafCount}
 use Rattle.refusals.specs.Numbers.{within, ask}
 use Rattle.refusals.proofs.Verdicts.{ask_granted, within_true, in_range, below_range, above_range}
-use Rattle.trees.specs.Shape.{power_from, height_of, tree_verdict, nodes, rows_room, Tree}
+use Rattle.trees.specs.Shape.{power_from, height_of, tree_verdict, nodes, Tree}
 use Rattle.trees.proofs.Powers.{le_or_lt, pow_inj}
 
 -- ---- the height

@@ -5,7 +5,7 @@
 --   nodes m n           how many nodes the tree of height n has
 --   rows_room m t       bytes for a row of each node, as the refusal of a short log has it
 --   Tree m t            t leaves make a tree or a subtree of one: what the functions on trees ask
-use Rattle.std.specs.Prelude.{Bool, true, false, ◌≡◌, ℕ, zero, suc, ◌+◌, ◌*◌, ◌-◌, ◌/◌, ◌^◌, ◌≤◌, ltb, eqb}
+use Rattle.std.specs.Prelude.{true, false, ◌≡◌, ℕ, zero, suc, ◌*◌, ◌-◌, ◌/◌, ◌^◌, ◌≤◌, ltb, eqb}
 use Rattle.refusals.specs.declared.Verdict.{Verdict}
 use Rattle.refusals.specs.declared.Verdict.TheVariants.{Granted}
 use Rattle.refusals.specs.declared.Refusal.TheVariants.{Branching, LeafCount}

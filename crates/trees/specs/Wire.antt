@@ -3,9 +3,9 @@
 --   next_height m n b   the largest h below n such that m ^ h divides b
 --   next_width m n b    the largest power of m below m ^ n that divides b
 --   walk rule m n k a w s   at most k visits from the subtree (a, w) on, each next one found from the wire alone
-use Rattle.std.specs.Prelude.{Bool, true, false, List, [], ℕ, zero, suc, ◌+◌, ◌/◌, ◌%◌, ◌^◌, ltb, eqb}
+use Rattle.std.specs.Prelude.{true, false, List, [], ℕ, zero, suc, ◌+◌, ◌/◌, ◌%◌, ◌^◌, ltb, eqb}
 use Rattle.rows.specs.declared.Row.{Row}
-use Rattle.trees.specs.Search.{Look, Rule, lead}
+use Rattle.trees.specs.Search.{Rule, lead}
 
 -- tried from the largest on; the power 1 divides every b
 abbrev pub next_height : ℕ → ℕ → ℕ → ℕ

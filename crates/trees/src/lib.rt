@@ -7,6 +7,7 @@
 //                                        (0,2) worst_of     (2,2) -     slots 1 and 4
 //                                     (0,1) 0  (1,1) 1           slots 2 and 3
 #![tactic(auto)]
+
 ghost use Rattle.std.specs.Prelude.{◌≡◌, ◌≤◌, ltb};
 ghost use Rattle.trees.specs.Shape.{height_of, tree_verdict, Tree};
 ghost use Rattle.trees.specs.Wire.{next_width};

@@ -1,8 +1,6 @@
 -- The loop runs over the powers of m until one is not below t.
-use native.Mathlib.Nat.{mul-le-mul}
-use native.Mathlib.Omega.{arith}
-use Prim.Native.Nat.{ℕ, ◌*◌, ◌-◌, ◌≤◌}
-use Rattle.trees.proofs.ShapeLaws.{Reached, reached_first, reached_next, reached_grows, reached_last, too_many}
+use Prim.Native.Nat.{◌-◌}
+use Rattle.trees.proofs.ShapeLaws.{Reached}
 use Rattle.trees.proofs.is_leaf_count.Given as goal
 
 abbrev pub invariant-loop-power : goal.invariant-loop-power

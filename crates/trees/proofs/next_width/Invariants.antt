@@ -1,7 +1,6 @@
 -- The powers are tried from the largest below t on; 1 divides every b.
-use native.Mathlib.Omega.{arith}
 use Rattle.trees.specs.Shape.{height_of}
-use Rattle.trees.proofs.WireLaws.{Trying, trying_first, trying_some, trying_found, trying_next}
+use Rattle.trees.proofs.WireLaws.{Trying}
 use Rattle.trees.proofs.next_width.Given as goal
 
 abbrev pub invariant-loop-width : goal.invariant-loop-width
