@@ -1,11 +1,10 @@
 -- The leaf bytes read one by one: whether they are bits, and which are active.
 use mathlib.Core.Path.{◌≡◌, refl, sym, ap, ◌∙◌}
-use mathlib.Core.Bool.{Bool, true, false, ◌&&◌}
+use mathlib.Core.Bool.{true, false}
 use mathlib.Core.List.{List, [], ◌∷◌, ◌++◌, append-nil}
 use Prim.Native.Nat.{ℕ, zero, suc, ◌+◌, ◌-◌, ◌≤◌, ◌<◌}
 use native.Mathlib.Numerals.{add-one}
 use native.Mathlib.Omega.{arith}
-use lib.Dec.{leb}
 use lib.ListN.{length, get_or, take, drop, length-append, length-drop}
 use lib.Seq.{drop-cons, drop-length, take-suc, length-take-le, get_or-drop}
 use borrow.Author.Tests.{le-leb, lt-leb}

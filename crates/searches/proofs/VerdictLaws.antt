@@ -1,6 +1,6 @@
 -- The verdict of a bare search, by its tests; what a granted search may rely on; and the promise, for a refusal and for a search.
-use mathlib.Core.Path.{◌≡◌, refl, sym, ap, ◌∙◌, subst}
-use mathlib.Core.Bool.{Bool, true, false}
+use mathlib.Core.Path.{◌≡◌, refl, sym, ap, ◌∙◌}
+use mathlib.Core.Bool.{true, false}
 use mathlib.Core.List.{List}
 use Prim.Native.Nat.{ℕ, suc, ◌*◌, ◌≤◌, ◌<◌}
 use native.Mathlib.Omega.{arith}
@@ -11,7 +11,6 @@ use Rattle.refusals.specs.declared.Refusal.{Refusal}
 use Rattle.refusals.specs.declared.Refusal.TheVariants.{LeafList, LeafByte, LogRoom}
 use Rattle.refusals.specs.declared.Verdict.{Verdict}
 use Rattle.refusals.specs.declared.Verdict.TheVariants.{Granted, Refused}
-use Rattle.refusals.specs.Numbers.{ask, and_then}
 use Rattle.refusals.proofs.Verdicts.{ask_granted, then_granted}
 use Rattle.trees.specs.Shape.{tree_verdict, height_of, nodes, rows_room}
 use Rattle.trees.proofs.ShapeLaws.{Grown, grown, nodes_quotient, nodes_few}

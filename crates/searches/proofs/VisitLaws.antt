@@ -11,7 +11,7 @@ use Rattle.rows.specs.declared.Channel.{Channel}
 use Rattle.rows.specs.declared.Channel.TheVariants.{Silence, Busy, Collision}
 use Rattle.rows.proofs.LogLaws.{log_none, log_then}
 use Rattle.trees.specs.Shape.{nodes}
-use Rattle.trees.specs.Search.{children, visit, active, active_in, bare_row, bare_look, bare_rule, total, silent, colliding, silences, collisions}
+use Rattle.trees.specs.Search.{children, visit, active_in, bare_row, bare_look, bare_rule, total, silent, colliding}
 use Rattle.trees.proofs.Powers.{pow_inj, Below, below, child_inside}
 use Rattle.trees.proofs.LeafLaws.{part, part_length, length_active, ones_le}
 use Rattle.trees.proofs.SearchLaws.{total_append, told, AllTold, all_told, children_more, noded}

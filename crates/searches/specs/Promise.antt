@@ -6,7 +6,6 @@
 use Rattle.std.specs.Prelude.{◌≡◌, List, ℕ, length}
 use Rattle.std.proofs.Common.{sym, ap, ◌∙◌, arith}
 use Rattle.refusals.proofs.Verdicts.{number_tells, number_some}
-use Rattle.refusals.specs.Numbers.{number_of}
 use Rattle.searches.specs.declared.Found.{Found}
 use Rattle.searches.specs.declared.Found.TheVariants.{Searched, Refused}
 use Rattle.searches.specs.Answer.{figures, search_figures, search_log}

@@ -3,6 +3,7 @@
 // The rest visits one subtree at a time, as the definition does.
 // Uses refusals, rows and trees.
 #![tactic(auto)]
+
 ghost use Rattle.std.specs.Prelude.{◌≡◌, ◌+◌, ◌≤◌, length, [], ◌∷◌};
 ghost use Rattle.trees.specs.Shape.{Tree, rows_room};
 ghost use Rattle.trees.specs.Search.{all_bits, active_in, bare_row, silent, colliding};

@@ -1,10 +1,8 @@
 -- The bytes passed so far are bits, so the whole list is bits exactly if the rest is.
-use mathlib.Core.Path.{◌≡◌, refl, sym, ◌∙◌}
+use mathlib.Core.Path.{◌≡◌}
 use Prim.Native.Nat.{◌-◌, ◌≤◌}
-use native.Mathlib.Omega.{arith}
 use lib.ListN.{length, drop}
 use Rattle.trees.specs.Search.{all_bits}
-use Rattle.searches.proofs.LookLaws.{bits_next, bits_stop, bits_end}
 use Rattle.searches.proofs.are_bits.Given as goal
 
 abbrev pub invariant-loop-i : goal.invariant-loop-i

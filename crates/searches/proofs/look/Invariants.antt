@@ -1,9 +1,6 @@
 -- Every leaf of the subtree is heard once; the answer goes by the count.
-use mathlib.Core.Path.{refl}
-use mathlib.Core.Logic.{⊎_elim}
 use Prim.Native.Nat.{◌-◌}
-use native.Mathlib.Omega.{arith}
-use Rattle.searches.proofs.LookLaws.{Heard, heard_active, heard_quiet, heard_nobody, heard_one, heard_several}
+use Rattle.searches.proofs.LookLaws.{Heard}
 use Rattle.searches.proofs.look.Given as goal
 
 abbrev pub invariant-loop-i : goal.invariant-loop-i
