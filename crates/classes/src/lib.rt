@@ -3,6 +3,7 @@
 // `class_answer` is the public call, since tills show "late by n classes"; runs ask `is_below`.
 // Uses refusals.
 #![tactic(auto)]
+
 ghost use Rattle.std.specs.Prelude.{◌≡◌, ◌<◌, ◌≤◌};
 ghost use Rattle.std.proofs.Math.IntN.{sub_ℕ};
 ghost use Rattle.classes.specs.Class.{floor_of, class_of, class_below, class_fits};
