@@ -5,6 +5,7 @@
 //   free --collision--> time (0, F/m) --..--> time leaf p --collision--> static (0, q/m) for p --..--> time, after p
 //   time search over: free where something was sent in it, else the reference time grows and it starts anew
 #![tactic(auto)]
+
 ghost use Rattle.std.specs.Prelude.{◌≡◌, ◌+◌, ◌≤◌};
 ghost use Rattle.phases.specs.After.{time_start, time_over, time_on, static_on, time_down, after_free, after_time, after_static, after};
 ghost use Rattle.phases.specs.Work.{Sound, Within};
