@@ -2,6 +2,7 @@
 // `put_number` writes one, `read_number` reads one; each undoes the other (proofs/Inverse.antt).
 // Its definitions use those of refusals for ranges and of rows for a buffer; its code uses nothing.
 #![tactic(auto)]
+
 ghost use Rattle.std.specs.Prelude.{◌≡◌, ◌+◌, ◌*◌, ◌-◌, ◌≤◌, ◌<◌, length};
 ghost use Rattle.rows.specs.Log.{over};
 ghost use Rattle.numbers.specs.Decimal.{digit, is_digit, decimal, number_in};
