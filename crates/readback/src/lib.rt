@@ -1,6 +1,7 @@
 // Readback: a row of the log, read back from its 16 bytes (docs/RULES.md, section 4).
 // Uses rows.
 #![tactic(auto)]
+
 ghost use Rattle.std.specs.Prelude.{◌≡◌, ◌+◌, ◌*◌, ◌≤◌, length, get_or, take, drop};
 ghost use Rattle.readback.specs.Back.{PhaseBack, StateBack, RowBack};
 
