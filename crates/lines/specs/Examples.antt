@@ -8,10 +8,10 @@ use Rattle.lines.specs.Program.{program_text}
 -- two tills, three messages: every byte of the output
 pub whole_output : program_text (text "2 10 0 1 2 4 2 2\n0 1\n0 0 25 3\n1 0 28 2\n0 0 100 1\n")
     ≡ text "slot phase first width state message length\n"
-    ++ text "0 f 0 0 worst_of - 1\n"
+    ++ text "0 f 0 0 X - 1\n"
     ++ text "1 t 0 2 - - 1\n"
-    ++ text "2 t 2 2 worst_of - 1\n"
-    ++ text "3 t 2 1 worst_of - 1\n"
+    ++ text "2 t 2 2 X - 1\n"
+    ++ text "3 t 2 1 X - 1\n"
     ++ text "4 s 0 1 B 0 3\n"
     ++ text "7 s 1 1 B 1 2\n"
     ++ text "9 t 3 1 - - 1\n"

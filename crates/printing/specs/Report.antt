@@ -4,7 +4,7 @@
 --   column b          some bytes and the space behind them
 --   ending b          some bytes and the line feed behind them
 --   phase_letter p    f, t, s, b
---   state_letter s    - silence, B busy, worst_of collision
+--   state_letter s    - silence, B busy, X collision
 --   message_text i    the message's number, - for none
 --   row_text r        a row as a line
 --   rows_text rs      a line for each row
@@ -48,7 +48,7 @@ phase_letter Bare = code "b"
 abbrev pub state_letter : Channel → ℕ
 state_letter Silence = code "-"
 state_letter Busy = code "B"
-state_letter Collision = code "worst_of"
+state_letter Collision = code "X"
 
 -- 65,535 is none
 abbrev pub message_text : ℕ → List ℕ
