@@ -1,11 +1,10 @@
 // The program (docs/RULES.md, section 12): standard input to standard output. What it decides is in `lines::answer`.
 // Uses lines.
 #![tactic(auto)]
-ghost use Rattle.std.specs.Prelude.{◌≡◌, length};
 
-const STDIN: i32 = 0;
+ghost use Rattle.std.specs.Prelude.{◌≡◌, ◌≤◌, length};
 
-const STDOUT: i32 = 1;
+use std::io::{Read, Stdin};
 
 // One byte more than a text may have, so that a longer one is seen.
 fn input_room() -> [u8; 65537]
@@ -21,10 +20,26 @@ fn output_room() -> [u8; 262144]
     [0; 262144]
 }
 
-fn main() {
+// Reads until the room is full, the input ends or a read fails, and returns how many bytes stand at the room's front.
+fn read_full(input: &mut Stdin, room: &mut [u8]) -> usize
+    ensures { result ≤ length room.new }
+{
+    let mut done = 0;
+    while done < room.len() {
+        let read = input.read(&mut room[done..]).unwrap_or(0);
+        if read == 0 {
+            break;
+        }
+        done += read;
+    }
+    done
+}
+
+// A write that fails ends the program like any other.
+fn main(rt: HostRuntime) {
     let mut input = input_room();
     let mut output = output_room();
-    let read = io::read_full(STDIN, &mut input);
+    let read = read_full(&mut rt.stdin(), &mut input);
     let written = lines::answer(&input[..read], &mut output);
-    io::write_all(STDOUT, &output[..written]);
+    let _ = rt.write_all(&output[..written]);
 }

@@ -4,11 +4,13 @@
 // that come first in a call may be.
 // Uses searches, counts and placements.
 #![tactic(auto)]
+
 ghost use Rattle.std.specs.Prelude.{◌≤◌};
 
 use counts::Count;
 use placements::Placement;
 use searches::Found;
+use std::io::Read;
 
 const TURNS: u32 = 1000;
 
@@ -32,7 +34,7 @@ fn searches_sum(m: u32, t: u32, leaves: &[u8], log: &mut [u8]) -> u64 {
     let mut sum: u64 = 0;
     let mut turn: u32 = 0;
     while turn < TURNS {
-        sum = std::num::wrapping_add_u64(sum, search_once(m, t, leaves, log));
+        sum = sum.wrapping_add(search_once(m, t, leaves, log));
         turn += 1;
     }
     sum
@@ -51,8 +53,8 @@ fn counts_sum(m: u32, t: u32, k: u32) -> u64 {
     let mut sum: u64 = 0;
     let mut turn: u32 = 0;
     while turn < TURNS {
-        let asked = std::num::wrapping_add_u32(k, turn % 2);
-        sum = std::num::wrapping_add_u64(sum, count_once(m, t, asked));
+        let asked = k.wrapping_add(turn % 2);
+        sum = sum.wrapping_add(count_once(m, t, asked));
         turn += 1;
     }
     sum
@@ -70,8 +72,8 @@ fn placements_sum(m: u32, t: u32, k: u32, leaves: &mut [u8]) -> u64 {
     let mut sum: u64 = 0;
     let mut turn: u32 = 0;
     while turn < TURNS {
-        let asked = std::num::wrapping_add_u32(k, turn % 2);
-        sum = std::num::wrapping_add_u64(sum, place_once(m, t, asked, leaves));
+        let asked = k.wrapping_add(turn % 2);
+        sum = sum.wrapping_add(place_once(m, t, asked, leaves));
         turn += 1;
     }
     sum
@@ -127,9 +129,9 @@ fn sum_of(letter: u8) -> u64 {
     }
 }
 
-fn main() {
+// A read or a write that fails is passed over.
+fn main(rt: HostRuntime) {
     let mut letter = [0u8; 1];
-    libc::read(0, &mut letter);
-    io::print_decimal(1, sum_of(letter[0]));
-    io::write_all(1, b"\n");
+    let _ = rt.stdin().read(&mut letter);
+    let _ = rt.println(sum_of(letter[0]));
 }

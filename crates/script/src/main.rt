@@ -2,6 +2,7 @@
 // queued anew, and the list is run again. What it prints is held to docs/RULES.md by the file stdout.
 // Uses refusals, messages, phases, wire, withdrawals and shop.
 #![tactic(auto)]
+
 ghost use Rattle.shop.specs.Promise.{WithdrawalPromise, ShopPromise};
 
 use messages::Message;
@@ -9,8 +10,6 @@ use phases::{Shape, Shop};
 use refusals::Refusal;
 use wire::{Figures, Outcome};
 use withdrawals::Withdrawal;
-
-const STDOUT: i32 = 1;
 
 // A list of four messages, and the answer to a withdrawal from it.
 #[derive(Clone, Copy)]
@@ -51,74 +50,75 @@ fn run_over(shop: Shop, owners: &[u32], list: [Message; 4], log: &mut [u8], budg
     }
 }
 
-fn put(text: &[u8]) {
-    io::write_all(STDOUT, text);
+// A write that fails is passed over.
+fn put(rt: &impl Print, text: &[u8]) {
+    let _ = rt.write_all(text);
 }
 
 // A number, followed by the space that parts it from the next column.
-fn put_column(n: u32) {
-    io::print_decimal(STDOUT, n as u64);
-    put(b" ");
+fn put_column(rt: &impl Print, n: u32) {
+    let _ = rt.print(n);
+    put(rt, b" ");
 }
 
 // The last number of a line.
-fn put_last(n: u32) {
-    io::print_decimal(STDOUT, n as u64);
-    put(b"\n");
+fn put_last(rt: &impl Print, n: u32) {
+    let _ = rt.print(n);
+    put(rt, b"\n");
 }
 
-fn put_refusal(refusal: Refusal) {
-    put(b"refused ");
-    put_last(refusals::number(refusal));
+fn put_refusal(rt: &impl Print, refusal: Refusal) {
+    put(rt, b"refused ");
+    put_last(rt, refusals::number(refusal));
 }
 
 // Station, arrival, relative deadline, length and slot of sending.
-fn put_message(message: Message) {
-    put_column(message.station);
-    put_column(message.arrival);
-    put_column(message.relative);
-    put_column(message.length);
-    put_last(message.sent);
+fn put_message(rt: &impl Print, message: Message) {
+    put_column(rt, message.station);
+    put_column(rt, message.arrival);
+    put_column(rt, message.relative);
+    put_column(rt, message.length);
+    put_last(rt, message.sent);
 }
 
-fn put_list(list: [Message; 4]) {
-    put_message(list[0]);
-    put_message(list[1]);
-    put_message(list[2]);
-    put_message(list[3]);
+fn put_list(rt: &impl Print, list: [Message; 4]) {
+    put_message(rt, list[0]);
+    put_message(rt, list[1]);
+    put_message(rt, list[2]);
+    put_message(rt, list[3]);
 }
 
 // Events, present slot, sent and late.
-fn put_closing(figures: Figures) {
-    put_column(figures.events);
-    put_column(figures.slot);
-    put_column(figures.sent);
-    put_last(figures.late);
+fn put_closing(rt: &impl Print, figures: Figures) {
+    put_column(rt, figures.events);
+    put_column(rt, figures.slot);
+    put_column(rt, figures.sent);
+    put_last(rt, figures.late);
 }
 
-fn put_outcome(outcome: Outcome) {
+fn put_outcome(rt: &impl Print, outcome: Outcome) {
     match outcome {
         Outcome::Done(figures) => {
-            put(b"done ");
-            put_closing(figures);
+            put(rt, b"done ");
+            put_closing(rt, figures);
         }
         Outcome::Spent(figures) => {
-            put(b"budget ");
-            put_closing(figures);
+            put(rt, b"budget ");
+            put_closing(rt, figures);
         }
-        Outcome::Refused(refusal) => put_refusal(refusal),
+        Outcome::Refused(refusal) => put_refusal(rt, refusal),
     }
 }
 
-fn put_withdrawal(answer: Withdrawal) {
+fn put_withdrawal(rt: &impl Print, answer: Withdrawal) {
     match answer {
         Withdrawal::Withdrawn { kept, withdrawn } => {
-            put(b"kept ");
-            put_column(kept);
-            put(b"withdrawn ");
-            put_last(withdrawn);
+            put(rt, b"kept ");
+            put_column(rt, kept);
+            put(rt, b"withdrawn ");
+            put_last(rt, withdrawn);
         }
-        Withdrawal::Refused(refusal) => put_refusal(refusal),
+        Withdrawal::Refused(refusal) => put_refusal(rt, refusal),
     }
 }
 
@@ -168,33 +168,36 @@ fn queue_again(list: [Message; 4]) -> [Message; 4] {
     [list[0], list[1], queued(0, 2, 2, 2), queued(0, 8, 20, 1)]
 }
 
-fn run_and_show(list: [Message; 4]) -> [Message; 4] {
+fn run_and_show(rt: &impl Print, list: [Message; 4]) -> [Message; 4] {
     let owners = [0u32, 1];
     let mut log = [0u8; 512];
     let round = run_over(two_tills(), &owners, list, &mut log, 32);
     let outcome = round.outcome;
-    put_outcome(outcome);
+    put_outcome(rt, outcome);
     let after = round.list;
-    put_list(after);
+    put_list(rt, after);
     after
 }
 
-fn withdraw_and_show(list: [Message; 4], station: u32) -> [Message; 4] {
+fn withdraw_and_show(rt: &impl Print, list: [Message; 4], station: u32) -> [Message; 4] {
     let left = withdraw_from(list, station);
     let answer = left.answer;
-    put_withdrawal(answer);
+    put_withdrawal(rt, answer);
     let after = left.list;
-    put_list(after);
+    put_list(rt, after);
     after
 }
 
-fn main() {
-    put(b"a run: two tills, four messages\n");
-    let first = run_and_show(queue());
-    put(b"\ntill 1 is withdrawn\n");
-    let left = withdraw_and_show(first, 1);
-    put(b"\na run: the kept messages, and two further ones of till 0\n");
-    let second = run_and_show(queue_again(left));
-    put(b"\na till 32 is withdrawn\n");
-    withdraw_and_show(second, 32);
+fn main(rt: HostRuntime) {
+    put(&rt, b"a run: two tills, four messages\n");
+    let first = run_and_show(&rt, queue());
+    put(&rt, b"\ntill 1 is withdrawn\n");
+    let left = withdraw_and_show(&rt, first, 1);
+    put(
+        &rt,
+        b"\na run: the kept messages, and two further ones of till 0\n",
+    );
+    let second = run_and_show(&rt, queue_again(left));
+    put(&rt, b"\na till 32 is withdrawn\n");
+    withdraw_and_show(&rt, second, 32);
 }
