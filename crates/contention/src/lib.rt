@@ -2,6 +2,7 @@
 // taken afresh in each slot, where the phase lets it enter.
 // Uses classes, messages and phases.
 #![tactic(auto)]
+
 ghost use Rattle.std.specs.Prelude.{◌≡◌, ◌+◌, ◌≤◌, ◌<◌, length};
 ghost use Rattle.messages.specs.Message.{first_message};
 ghost use Rattle.messages.specs.Lists.{listed, SameLength, TimedList};

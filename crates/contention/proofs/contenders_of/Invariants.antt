@@ -1,10 +1,8 @@
 -- The tally so far is that of the stations looked at.
-use mathlib.Core.Path.{◌≡◌, ap, ◌∙◌}
-use Prim.Native.Nat.{ℕ, ◌-◌, ◌≤◌}
-use native.Mathlib.Omega.{arith}
+use mathlib.Core.Path.{◌≡◌}
+use Prim.Native.Nat.{◌-◌, ◌≤◌}
 use Rattle.messages.specs.Lists.{listed}
 use Rattle.contention.specs.Contenders.{contenders_below, tally_of}
-use Rattle.contention.proofs.ContendLaws.{tally_start, tally_next, tally_few}
 use Rattle.contention.proofs.contenders_of.Given as goal
 
 abbrev pub invariant-loop-station : goal.invariant-loop-station

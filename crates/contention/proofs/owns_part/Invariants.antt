@@ -1,10 +1,7 @@
 -- The indices looked at so far are owned by the station, or not.
-use mathlib.Core.Path.{◌≡◌, refl, sym, ap, ◌∙◌}
-use mathlib.Core.Logic.{⊎_elim}
-use Prim.Native.Nat.{ℕ, ◌+◌, ◌-◌, ◌≤◌}
-use native.Mathlib.Omega.{arith}
+use mathlib.Core.Path.{◌≡◌}
+use Prim.Native.Nat.{◌-◌, ◌≤◌}
 use Rattle.contention.specs.Contenders.{owns}
-use Rattle.contention.proofs.EnterLaws.{owns_here, owns_not}
 use Rattle.contention.proofs.owns_part.Given as goal
 
 abbrev pub invariant-loop-n : goal.invariant-loop-n
