@@ -6,7 +6,7 @@
 --   row_of σ c message used   the row of an event in the state σ
 --   marked c ms i slot       the messages, message i with its slot of sending where it is sent
 --   event S table ms σ       the event in the state σ with the messages ms: row, state after it, messages after it
-use Rattle.std.specs.Prelude.{List, [], ◌∷◌, map, ℕ, zero, suc, ◌+◌, get_or, set}
+use Rattle.std.specs.Prelude.{List, map, ℕ, zero, suc, ◌+◌, get_or, set}
 use Rattle.rows.specs.declared.Row.{Row}
 use Rattle.rows.specs.declared.Phase.{Phase}
 use Rattle.rows.specs.declared.Phase.TheVariants.{Free as FreePhase, Time as TimePhase, Static as StaticPhase}

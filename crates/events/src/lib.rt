@@ -2,6 +2,7 @@
 // contenders, the row, the mark on a message that is sent, and the state after it. A run writes the row.
 // Uses rows, messages, phases and contention.
 #![tactic(auto)]
+
 ghost use Rattle.std.specs.Prelude.{◌≡◌, ◌≤◌};
 ghost use Rattle.events.specs.Event.{channel_of, used_by, message_by, row_of};
 ghost use Rattle.events.specs.Work.{marked_by, RowReady, StepReady, Stepped, SentInside};
