@@ -2,6 +2,7 @@
 // that it works with (docs/RULES.md, sections 2 and 10).
 // Uses refusals, rows, trees, classes, messages and phases.
 #![tactic(auto)]
+
 ghost use Rattle.std.specs.Prelude.{◌≡◌, ◌&&◌, ◌≤◌, length};
 ghost use Rattle.messages.specs.Lists.{listed, SameLength};
 ghost use Rattle.inputs.specs.Inputs.{class_numbers, is_owner, are_owners, holds, all_own, table_fits};
@@ -176,6 +177,7 @@ fn all_fit(
 }
 
 // Refusal 9: a whole list of at most 512 messages, each of which fits.
+#[tactic(auto, using(messages::proofs::ListLaws::length_listed))]
 fn messages_fit(
     stations: &[u32],
     arrivals: &[u32],

@@ -1,13 +1,9 @@
 -- The messages passed so far fit, so all do exactly if the rest does.
-use borrow.Author.Tests.{not-true, not-false}
-use mathlib.Core.Path.{◌≡◌, refl, sym, ◌∙◌}
-use native.Mathlib.Omega.{arith}
+use mathlib.Core.Path.{◌≡◌}
 use Prim.Native.Nat.{◌≤◌, ◌-◌}
 use lib.ListN.{length, drop}
 use Rattle.messages.specs.Lists.{listed}
-use Rattle.messages.proofs.ListLaws.{length_listed}
 use Rattle.inputs.specs.Inputs.{all_fit}
-use Rattle.inputs.proofs.TestLaws.{fit_next, fit_stop, fit_end}
 use Rattle.inputs.proofs.all_fit.Given as goal
 
 abbrev pub invariant-loop-i : goal.invariant-loop-i

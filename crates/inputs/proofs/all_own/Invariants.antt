@@ -1,11 +1,8 @@
 -- Every station passed so far has an entry.
-use borrow.Author.Tests.{not-true, not-false}
 use mathlib.Core.Bool.{true}
-use mathlib.Core.Path.{◌≡◌, refl, sym, ap, ◌∙◌}
-use native.Mathlib.Omega.{arith}
+use mathlib.Core.Path.{◌≡◌}
 use Prim.Native.Nat.{◌≤◌, ◌-◌}
 use Rattle.inputs.specs.Inputs.{all_own}
-use Rattle.inputs.proofs.TestLaws.{own_next, own_stop}
 use Rattle.inputs.proofs.all_own.Given as goal
 
 abbrev pub invariant-loop-station : goal.invariant-loop-station

@@ -1,11 +1,8 @@
 -- The entries passed so far are owners, so all are exactly if the rest is.
-use borrow.Author.Tests.{not-true, not-false}
-use mathlib.Core.Path.{◌≡◌, refl, sym, ◌∙◌}
-use native.Mathlib.Omega.{arith}
+use mathlib.Core.Path.{◌≡◌}
 use Prim.Native.Nat.{◌≤◌, ◌-◌}
 use lib.ListN.{length, drop}
 use Rattle.inputs.specs.Inputs.{are_owners}
-use Rattle.inputs.proofs.TestLaws.{owners_next, owners_stop, owners_end}
 use Rattle.inputs.proofs.are_owners.Given as goal
 
 abbrev pub invariant-loop-i : goal.invariant-loop-i

@@ -1,10 +1,8 @@
 -- The entries passed so far are of others, so the station has an entry exactly if it has one in the rest.
-use mathlib.Core.Path.{◌≡◌, refl, sym, ◌∙◌}
-use native.Mathlib.Omega.{arith}
+use mathlib.Core.Path.{◌≡◌}
 use Prim.Native.Nat.{◌≤◌, ◌-◌}
 use lib.ListN.{length, drop}
 use Rattle.inputs.specs.Inputs.{holds}
-use Rattle.inputs.proofs.TestLaws.{holds_next, holds_here, holds_end}
 use Rattle.inputs.proofs.has_entry.Given as goal
 
 abbrev pub invariant-loop-i : goal.invariant-loop-i

@@ -1,10 +1,8 @@
 -- The copy loop: after i turns the first i owners are pasted over the free places.
-use mathlib.Core.Path.{◌≡◌, refl}
-use native.Mathlib.Omega.{arith}
-use Prim.Native.Nat.{◌≤◌, ◌<◌, ◌-◌, ◌+◌}
+use mathlib.Core.Path.{◌≡◌}
+use Prim.Native.Nat.{◌≤◌, ◌-◌}
 use lib.Seq.{paste}
-use lib.ListN.{length, replicate, length-set}
-use Rattle.inputs.proofs.TableLaws.{front_next, front_end}
+use lib.ListN.{length, replicate}
 use Rattle.inputs.proofs.owner_table.Given as goal
 
 abbrev pub invariant-loop-i : goal.invariant-loop-i
