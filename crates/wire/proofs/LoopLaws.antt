@@ -1,6 +1,6 @@
 -- The loop of a run over the lent slices: each turn is one event of the definition's run.
 use mathlib.Core.Path.{◌≡◌, refl, sym, ap, ◌∙◌, subst}
-use mathlib.Core.Bool.{Bool, true, false}
+use mathlib.Core.Bool.{true, false}
 use mathlib.Core.List.{List}
 use Prim.Native.Nat.{ℕ, ◌+◌, ◌*◌, ◌≤◌, ◌<◌}
 use native.Mathlib.Omega.{arith}
@@ -9,7 +9,7 @@ use Rattle.rows.specs.declared.Row.{Row}
 use Rattle.rows.specs.Log.{over, row_bytes, log_bytes}
 use Rattle.messages.specs.declared.Message.{Message}
 use Rattle.messages.specs.Message.{all_sent}
-use Rattle.messages.specs.Lists.{listed, SameLength, all_marked}
+use Rattle.messages.specs.Lists.{listed, all_marked}
 use Rattle.messages.proofs.ListLaws.{all_sent_listed}
 use Rattle.phases.specs.declared.Shop.{Shop}
 use Rattle.phases.specs.declared.State.{State}
@@ -20,8 +20,7 @@ use Rattle.contention.specs.Contenders.{contenders, tally_of}
 use Rattle.contention.specs.Work.{Open}
 use Rattle.events.specs.declared.Step.{Step}
 use Rattle.events.specs.Work.{StepReady, Stepped}
-use Rattle.wire.specs.declared.Ended.{Ended}
-use Rattle.wire.specs.Run.{World, world_after, event_in, run}
+use Rattle.wire.specs.Run.{World, event_in, run}
 use Rattle.wire.specs.Work.{RunReady, Ran, begin}
 use Rattle.wire.proofs.StepLaws.{Going, contend_ready, step_ready, state_is, row_is, messages_are, going_on}
 use Rattle.wire.proofs.RunLaws.{Running, running_start, running_next, running_done, running_spent}

@@ -1,9 +1,8 @@
 -- The promise of a run: for a refusal, and for the run that a granted input makes.
 use mathlib.Core.Path.{◌≡◌, refl, sym, ap, ◌∙◌, subst}
 use mathlib.Core.Bool.{Bool, true, false}
-use mathlib.Core.List.{List, map}
+use mathlib.Core.List.{List}
 use Prim.Native.Nat.{ℕ, ◌≤◌}
-use native.Mathlib.Omega.{arith}
 use lib.ListN.{length, replicate}
 use Rattle.refusals.specs.declared.Refusal.{Refusal}
 use Rattle.refusals.specs.declared.Verdict.{Verdict}
@@ -20,8 +19,8 @@ use Rattle.inputs.proofs.GrantLaws.{Allowed, allowed}
 use Rattle.wire.specs.declared.Ended.{Ended}
 use Rattle.wire.specs.declared.Outcome.{Outcome}
 use Rattle.wire.specs.declared.Outcome.TheVariants.{Refused}
-use Rattle.wire.specs.Run.{World, run, start, sent_count, late_count}
-use Rattle.wire.specs.Answer.{Reading, ended, reading_of, reading_by, marks, marks_by, log_by, ran_of, closing}
+use Rattle.wire.specs.Run.{World, run, sent_count, late_count}
+use Rattle.wire.specs.Answer.{Reading, reading_of, reading_by, marks, marks_by, log_by, ran_of, closing}
 use Rattle.wire.specs.Promise.{RunPromise}
 use Rattle.wire.specs.Work.{RunReady, Ran, begin, outcome_of}
 use Rattle.wire.proofs.StepLaws.{listed_marks}

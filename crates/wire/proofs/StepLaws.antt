@@ -1,20 +1,18 @@
 -- One event in a run: what its code leaves is the definition's event, and the run may go on.
-use mathlib.Core.Path.{◌≡◌, refl, sym, ap, ◌∙◌, subst}
+use mathlib.Core.Path.{◌≡◌, refl, sym, ap, ◌∙◌}
 use mathlib.Core.List.{List, [], ◌∷◌, map}
 use mathlib.Core.Logic.{⊎_elim}
 use Prim.Native.Nat.{ℕ, zero, suc, ◌+◌, ◌*◌, ◌≤◌, ◌<◌}
-use native.Mathlib.Nat.{suc_inj}
 use native.Mathlib.Omega.{arith}
-use lib.ListN.{length, get_or, set, drop, length-drop, get_or-eq_default}
+use lib.ListN.{length, get_or, drop, length-drop, get_or-eq_default}
 use Rattle.rows.specs.declared.Channel.{Channel}
 use Rattle.rows.specs.declared.Channel.TheVariants.{Silence, Busy, Collision}
 use Rattle.messages.specs.declared.Message.{Message}
-use Rattle.messages.specs.Message.{none, blank, sent_at}
+use Rattle.messages.specs.Message.{blank}
 use Rattle.messages.specs.Lists.{listed, SameLength, Timed, TimedList}
 use Rattle.messages.proofs.ListLaws.{length_listed, listed_at, listed_set, same_set, timed_listed_set}
 use Rattle.phases.specs.declared.Shop.{Shop}
 use Rattle.phases.specs.declared.State.{State}
-use Rattle.phases.specs.After.{after}
 use Rattle.phases.specs.Work.{Sound, Within}
 use Rattle.phases.proofs.StandLaws.{after_within, after_reference, after_slot}
 use Rattle.contention.specs.declared.Tally.{Tally}
@@ -22,7 +20,7 @@ use Rattle.contention.specs.Contenders.{contenders, last_of, tally_of}
 use Rattle.contention.specs.Work.{Open}
 use Rattle.contention.proofs.ContendLaws.{contenders_few, contenders_messages}
 use Rattle.events.specs.declared.Step.{Step}
-use Rattle.events.specs.Event.{channel_of, used_by, message_by, row_of, marked, Event, event}
+use Rattle.events.specs.Event.{channel_of, used_by, marked, Event, event}
 use Rattle.events.specs.Work.{marked_by, StepReady, Stepped}
 use Rattle.events.proofs.EventLaws.{used_few}
 use Rattle.trees.proofs.Powers.{le_or_lt}

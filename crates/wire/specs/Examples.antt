@@ -7,7 +7,7 @@
 --   program_answer      what the call answers: no test refuses the shop and its messages, lent as slices
 --   no_messages         done at once, with no event and the log as it was
 --   empty_searches      two far deadlines: 96 empty time searches before a message enters
-use Rattle.std.specs.Prelude.{◌≡◌, refl, Bool, true, false, List, [], ◌∷◌, map, ℕ, zero, suc, replicate, drop}
+use Rattle.std.specs.Prelude.{◌≡◌, refl, true, List, [], ◌∷◌, map, ℕ, zero, suc, replicate, drop}
 use Rattle.std.proofs.Common.{sym}
 use Rattle.refusals.specs.declared.Verdict.TheVariants.{Granted}
 use Rattle.rows.proofs.LogLaws.{log_none}

@@ -3,7 +3,7 @@
 --   RunPromise ..     the reading, the slots of sending and the whole log at exit are the definition's
 --   reading_tells     the reading tells the answer
 --   one_result        two results that the promise allows for one input are equal
-use Rattle.std.specs.Prelude.{◌≡◌, refl, Bool, true, false, List, ℕ, length}
+use Rattle.std.specs.Prelude.{◌≡◌, true, false, List, ℕ, length}
 use Rattle.std.proofs.Common.{sym, ap, ◌∙◌, arith}
 use Rattle.refusals.proofs.Verdicts.{number_tells, number_some}
 use Rattle.messages.specs.Lists.{listed}

@@ -6,7 +6,7 @@
 --   run S table k W     at most k events from W on: their rows, and the world after them
 --   sent_count ms       messages sent
 --   late_count ms       sent messages whose end lies after their absolute deadline
-use Rattle.std.specs.Prelude.{Bool, true, false, not, ◌&&◌, List, [], ◌∷◌, ℕ, zero, suc, ◌+◌, ltb, eqb}
+use Rattle.std.specs.Prelude.{true, false, not, ◌&&◌, List, [], ◌∷◌, ℕ, zero, suc, ◌+◌, ltb, eqb}
 use Rattle.rows.specs.declared.Row.{Row}
 use Rattle.messages.specs.declared.Message.{Message}
 use Rattle.messages.specs.Message.{unsent, deadline_of, fresh, all_sent}

@@ -2,6 +2,7 @@
 // `run` is the public call: it takes whatever it is given and refuses what is bad.
 // Uses refusals, rows, trees, messages, phases, contention, inputs and events.
 #![tactic(auto)]
+
 ghost use Rattle.std.specs.Prelude.{◌≡◌, ◌*◌, ◌≤◌, length};
 ghost use Rattle.messages.specs.Lists.{listed, SameLength, TimedList, Timed};
 ghost use Rattle.wire.specs.Run.{is_sent, is_late, sent_count, late_count};

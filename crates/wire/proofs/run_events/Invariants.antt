@@ -1,8 +1,6 @@
 -- Each turn of the loop is one event; it stops where every message is sent or the budget is spent.
-use mathlib.Core.Path.{sym, ◌∙◌}
 use Prim.Native.Nat.{◌-◌}
-use native.Mathlib.Omega.{arith}
-use Rattle.wire.proofs.LoopLaws.{Turn, turn_start, turn_done, turn_spent, turn_contends, turn_steps, turn_next}
+use Rattle.wire.proofs.LoopLaws.{Turn}
 use Rattle.wire.proofs.run_events.Given as goal
 
 abbrev pub invariant-loop-events : goal.invariant-loop-events
