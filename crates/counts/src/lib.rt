@@ -3,6 +3,7 @@
 // The tills' own tree, four branches and 256 leaves, stands as a table.
 // Uses refusals and trees.
 #![tactic(auto)]
+
 mod tills; // tills.rt: the table
 
 ghost use Rattle.std.specs.Prelude.{◌≡◌, ◌+◌, ◌*◌, ◌-◌, ◌/◌, ◌≤◌, ◌<◌, min, length, get_or};

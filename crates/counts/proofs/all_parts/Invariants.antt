@@ -1,11 +1,9 @@
 -- The loop takes one tree more in each turn.
-use mathlib.Core.Path.{◌≡◌, refl}
+use mathlib.Core.Path.{◌≡◌}
 use Prim.Native.Nat.{◌-◌, ◌*◌, ◌≤◌}
-use native.Mathlib.Omega.{arith}
 use lib.ListN.{length}
 use Rattle.trees.specs.Worst.{parts}
 use Rattle.counts.specs.Counting.{up_to}
-use Rattle.counts.proofs.CountLaws.{no_parts, part_step, part_fits, part_room}
 use Rattle.counts.proofs.all_parts.Given as goal
 
 abbrev pub invariant-loop-i : goal.invariant-loop-i

@@ -1,12 +1,8 @@
 -- The loop: what was found so far is at least each sum read, and at most the entry.
-use mathlib.Core.Path.{◌≡◌}
-use mathlib.Core.Logic.{inl, inr, ⊎_elim}
 use Prim.Native.Nat.{ℕ, ◌+◌, ◌-◌, ◌≤◌, ◌<◌}
-use native.Mathlib.Omega.{arith}
 use lib.ListN.{get_or}
 use Rattle.trees.specs.Worst.{pairs}
 use Rattle.counts.specs.Counting.{up_to}
-use Rattle.counts.proofs.CountLaws.{best_step, is_best}
 use Rattle.counts.proofs.best_pair.Given as goal
 
 abbrev pub invariant-loop-i : goal.invariant-loop-i

@@ -1,11 +1,9 @@
 -- The loop fills the array from the front with the largest sums.
-use mathlib.Core.Path.{◌≡◌, refl}
-use Prim.Native.Nat.{ℕ, ◌+◌, ◌-◌, ◌≤◌}
-use native.Mathlib.Omega.{arith}
-use lib.ListN.{length, take, length-set}
+use mathlib.Core.Path.{◌≡◌}
+use Prim.Native.Nat.{◌+◌, ◌-◌, ◌≤◌}
+use lib.ListN.{length, take}
 use Rattle.trees.specs.Worst.{pairs}
 use Rattle.counts.specs.Counting.{up_to}
-use Rattle.counts.proofs.CountLaws.{fill_step, filled, paired_length}
 use Rattle.counts.proofs.paired.Given as goal
 
 abbrev pub invariant-loop-k : goal.invariant-loop-k

@@ -1,12 +1,9 @@
 -- The loop fills the array from the front, after the two entries that need no search.
-use mathlib.Core.Path.{◌≡◌, refl, sym}
-use mathlib.Core.List.{List}
-use Prim.Native.Nat.{ℕ, ◌+◌, ◌-◌, ◌≤◌}
-use native.Mathlib.Omega.{arith}
-use lib.ListN.{length, get_or, take, length-set}
+use mathlib.Core.Path.{◌≡◌}
+use Prim.Native.Nat.{◌+◌, ◌-◌, ◌≤◌}
+use lib.ListN.{length, take}
 use Rattle.trees.specs.Worst.{rooted}
 use Rattle.counts.specs.Counting.{up_to}
-use Rattle.counts.proofs.CountLaws.{fill_step, filled, rooted_two, rooted_entry, rooted_length}
 use Rattle.counts.proofs.with_root.Given as goal
 
 abbrev pub invariant-loop-k : goal.invariant-loop-k

@@ -1,0 +1,10 @@
+-- The tills' tree is read from the table; any other is counted, and k is one of its places.
+use mathlib.Core.Path.{◌∙◌}
+use Rattle.counts.proofs.AnswerLaws.{count_at, tills_height}
+use Rattle.counts.proofs.granted_count.Goals as goal
+
+pub returns-then-t-eq256 : goal.returns-then-t-eq256
+returns-then-t-eq256 c = c.tills_count.ensures ∙ tills_height c.args.m c.args.t c.args.k c.if-m-eq4.true c.if-t-eq256.true
+
+pub returns : goal.returns
+returns c = count_at c.args.m c.args.t c.args.k c.requires c.counts_of-counts.result c.counts_of-counts.ensures
