@@ -18,7 +18,7 @@ visit-r-requires t c =
     let hit = c.in-Several.ensures in
     let smaller : s.w / s.m < s.w = div-lt_self (omega (arith, wide s.leaves.now s.log.now s.m s.a s.w s.t c.requires hit)) c.requires.branches in (
       omega (arith, c.decreases),
-      next_ready s.leaves.now s.log.now s.m s.a s.w s.t c.requires hit note.result note.new.log note.auto.log note.ensures l.j l.r l.log c.loop-j-test.true l.invariant,
+      next_ready s.leaves.now s.log.now s.m s.a s.w s.t c.requires hit note.result note.new.log note.auto.log note.ensures l.j l.r l.log (omega arith) l.invariant,
     )
 
 pub loop-j-preserved : goal.loop-j-preserved
@@ -27,7 +27,7 @@ loop-j-preserved t c =
     let l = c.loop-j in
     let note = c.note-r in
     let v = c.visit-r in
-    kept_next s.leaves.now s.log.now s.m s.a s.w s.t c.requires c.in-Several.ensures note.result note.new.log note.auto.log note.ensures l.j l.r v.result l.log v.new.log c.loop-j-test.true v.auto.log l.invariant v.ensures
+    kept_next s.leaves.now s.log.now s.m s.a s.w s.t c.requires c.in-Several.ensures note.result note.new.log note.auto.log note.ensures l.j l.r v.result l.log v.new.log (omega arith) v.auto.log l.invariant v.ensures
 
 pub returns-in-Nobody : goal.returns-in-Nobody
 returns-in-Nobody t c =
@@ -49,4 +49,4 @@ returns-after-loop-j t c =
     let s = c.args in
     let l = c.loop-j in
     let note = c.note-r in
-    kept_all s.leaves.now s.log.now s.m s.a s.w s.t c.requires c.in-Several.ensures note.result note.new.log note.auto.log note.ensures l.j l.r l.log c.loop-j-test.false l.invariant
+    kept_all s.leaves.now s.log.now s.m s.a s.w s.t c.requires c.in-Several.ensures note.result note.new.log note.auto.log note.ensures l.j l.r l.log (omega arith) l.invariant
