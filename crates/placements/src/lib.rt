@@ -4,6 +4,7 @@
 // pairs, which collide far down, many leaves are spread evenly.
 // Uses refusals and trees.
 #![tactic(auto)]
+
 ghost use Rattle.std.specs.Prelude.{◌≡◌, ℕ, ◌^◌, ◌≤◌, length, replicate};
 ghost use Rattle.trees.specs.Shape.{Tree};
 ghost use Rattle.trees.proofs.Shares.{equal_share, share as share_of};

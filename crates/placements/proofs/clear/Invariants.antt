@@ -1,10 +1,8 @@
 -- After i turns the first i bytes are 0.
-use borrow.Author.Fill.{fill_more}
-use lib.ListN.{length, drop, set, replicate, length-set, drop_of_length-le}
-use native.Mathlib.Omega.{arith}
-use mathlib.Core.List.{List, ◌++◌, append-nil}
-use mathlib.Core.Path.{◌≡◌, refl, ◌∙◌, ap}
-use Prim.Native.Nat.{ℕ, ◌≤◌, ◌-◌}
+use lib.ListN.{length, drop, replicate}
+use mathlib.Core.List.{◌++◌}
+use mathlib.Core.Path.{◌≡◌}
+use Prim.Native.Nat.{◌≤◌, ◌-◌}
 use Rattle.placements.proofs.clear.Given as goal
 
 abbrev pub invariant-loop-i : goal.invariant-loop-i
