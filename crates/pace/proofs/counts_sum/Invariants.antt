@@ -1,5 +1,5 @@
 -- A thousand turns.
-use Rattle.std.proofs.Common.{◌-◌, rules}
+use Rattle.std.proofs.Common.{◌-◌}
 use Rattle.pace.proofs.counts_sum.Given as goal
 
 abbrev pub invariant-loop-turn : goal.invariant-loop-turn

@@ -1,5 +1,5 @@
 -- The list keeps its length, and each place in it is written once.
-use Rattle.std.proofs.Common.{◌≡◌, ◌-◌, length, refl, ◌∙◌, length-set, rules}
+use Rattle.std.proofs.Common.{◌≡◌, ◌-◌, length}
 use Rattle.pace.proofs.mark.Given as goal
 
 abbrev pub invariant-loop-i : goal.invariant-loop-i

@@ -1,5 +1,5 @@
 -- A thousand turns, none of which changes the list's length.
-use Rattle.std.proofs.Common.{◌≡◌, ◌-◌, length, refl, ◌∙◌, rules}
+use Rattle.std.proofs.Common.{◌≡◌, ◌-◌, length}
 use Rattle.pace.proofs.placements_sum.Given as goal
 
 abbrev pub invariant-loop-turn : goal.invariant-loop-turn

@@ -1,5 +1,5 @@
 -- A thousand turns, none of which changes the log's length.
-use Rattle.std.proofs.Common.{◌≡◌, ◌-◌, length, refl, ◌∙◌, rules}
+use Rattle.std.proofs.Common.{◌≡◌, ◌-◌, length}
 use Rattle.pace.proofs.searches_sum.Given as goal
 
 abbrev pub invariant-loop-turn : goal.invariant-loop-turn
