@@ -2,6 +2,7 @@
 // Numbers that do not fit into a lent column are read and counted, and not kept: no shop with so many is run.
 // Uses messages and phases for what a text gives, and numbers.
 #![tactic(auto)]
+
 ghost use Rattle.std.specs.Prelude.{◌≡◌, ◌≤◌, length, set};
 ghost use Rattle.reading.specs.Work.{from, Part, LineRead, shop_line, message_line};
 ghost use Rattle.reading.specs.Work.{MessagePut, MessagesRead, HeadRead, ShopRead};

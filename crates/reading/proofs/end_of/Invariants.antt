@@ -1,7 +1,7 @@
 -- No mark so far.
 use Prim.Native.Nat.{◌-◌}
 use lib.ListN.{length}
-use Rattle.reading.proofs.PieceLaws.{Seeking, seeking_start, seeking_next, seeking_found, seeking_end}
+use Rattle.reading.proofs.PieceLaws.{Seeking}
 use Rattle.reading.proofs.end_of.Given as goal
 
 abbrev pub invariant-loop-end : goal.invariant-loop-end

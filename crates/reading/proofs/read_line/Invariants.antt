@@ -1,9 +1,7 @@
 -- One number after the other.
-use mathlib.Core.Path.{sym, ◌∙◌}
 use Prim.Native.Nat.{◌+◌, ◌-◌}
-use native.Mathlib.Omega.{arith}
 use lib.ListN.{length}
-use Rattle.reading.proofs.LineLaws.{SoFar, so_far_start, so_far_bad, so_far_next, so_far_all}
+use Rattle.reading.proofs.LineLaws.{SoFar}
 use Rattle.reading.proofs.read_line.Given as goal
 
 abbrev pub invariant-loop-at : goal.invariant-loop-at

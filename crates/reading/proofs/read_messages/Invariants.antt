@@ -1,9 +1,7 @@
 -- One message after the other.
-use mathlib.Core.Path.{sym, ◌∙◌}
 use Prim.Native.Nat.{◌-◌}
-use native.Mathlib.Omega.{arith}
 use lib.ListN.{length}
-use Rattle.reading.proofs.MessageLaws.{Following, following_start, stations_kept, arrivals_kept, relatives_kept, lengths_kept, following_unended, following_other, following_next, following_all}
+use Rattle.reading.proofs.MessageLaws.{Following}
 use Rattle.reading.proofs.read_messages.Given as goal
 
 abbrev pub invariant-loop-at : goal.invariant-loop-at
