@@ -2,6 +2,7 @@
 // line, or the one line of a refusal. `put_report` writes it all.
 // Uses refusals, rows, wire for how a run ends, numbers, and readback for the rows of a log.
 #![tactic(auto)]
+
 ghost use Rattle.std.specs.Prelude.{◌≡◌, true, [], ◌∷◌, ◌++◌, ◌+◌, ◌*◌, ◌≤◌, length};
 ghost use Rattle.refusals.specs.Numbers.{number_of};
 ghost use Rattle.wire.specs.Answer.{ended, reading_of};

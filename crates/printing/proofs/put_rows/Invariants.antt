@@ -1,7 +1,6 @@
 -- A line for each row, one behind the other.
-use native.Mathlib.Omega.{arith}
 use Prim.Native.Nat.{◌-◌}
-use Rattle.printing.proofs.PutLaws.{Lines, lines_start, lines_next, lines_all}
+use Rattle.printing.proofs.PutLaws.{Lines}
 use Rattle.printing.proofs.put_rows.Given as goal
 
 abbrev pub invariant-loop-row : goal.invariant-loop-row
