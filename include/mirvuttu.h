@@ -1,6 +1,6 @@
 /* Mirvuttu for C: what a shop's wire does with its messages (docs/RULES.md).
  *
- * The functions stand in libexports.a, which `rt staticlib exports` writes below target/staticlib/. They are proved:
+ * The functions stand in libexports.a, which `rt lib` in crates/exports writes to its out/. They are proved:
  * each keeps docs/RULES.md for every input. No number and no length is out of bounds to them; what is bad is refused.
  *
  * Each answer but that of mirvuttu_answer, which answers in text, begins with or holds a refusal's number, 0 for none.

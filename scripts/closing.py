@@ -5,8 +5,8 @@ usage: closing.py LIBRARY
 
 LIBRARY is a shared library made of the archive of the proved calls:
 
-    rt staticlib exports
-    cc -shared -o libmirvuttu.so -Wl,--whole-archive target/staticlib/libexports.a -Wl,--no-whole-archive
+    (cd crates/exports && rt lib)
+    cc -shared -o libmirvuttu.so -Wl,--whole-archive crates/exports/out/libexports.a -Wl,--no-whole-archive
 """
 import ctypes
 import struct
