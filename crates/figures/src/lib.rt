@@ -2,6 +2,7 @@
 // figures, 0 where it is refused.
 // Uses refusals, searches, counts, placements, classes, wire and withdrawals for the answers.
 #![tactic(auto)]
+
 ghost use Rattle.std.specs.Prelude.{◌≡◌};
 ghost use Rattle.searches.specs.Answer.{figures as figures_of_search};
 ghost use Rattle.counts.specs.Answer.{figures as figures_of_count};
