@@ -1,7 +1,13 @@
--- A granted run clears the marks, runs, and counts.
+-- A refused run changes nothing; a granted run clears the marks, runs, and counts.
 use Rattle.std.proofs.Common.{sym, ◌∙◌}
-use Rattle.wire.proofs.PromiseLaws.{table_ready, loop_ready, answered}
+use Rattle.wire.proofs.PromiseLaws.{turned_back, table_ready, loop_ready, answered}
 use Rattle.wire.proofs.run.Goals as goal
+
+pub returns-in-Refused : goal.returns-in-Refused
+returns-in-Refused c =
+    let s = c.args in
+    turned_back s.shop s.owners.now s.stations.now s.arrivals.now s.relatives.now s.lengths.now s.sent.now s.log.now s.budget
+    c.in-Refused.refusal (sym c.in-Refused.is ∙ c.run_verdict-verdict.ensures)
 
 pub owner_table-table-requires : goal.owner_table-table-requires
 owner_table-table-requires c =
