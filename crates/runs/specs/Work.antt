@@ -4,7 +4,7 @@
 --   ColumnsOf table r     r holds the table's fields
 --   whole_of count         the count, or 0 where it is above 512
 --   TableRan ..           outcome, table and log by the verdict; the places behind the first `count` are unchanged
-use Rattle.std.specs.Prelude.{◌≡◌, Bool, true, false, List, ◌++◌, map, ℕ, leb, length, take, drop}
+use Rattle.std.specs.Prelude.{◌≡◌, true, false, List, ◌++◌, map, ℕ, leb, length, take, drop}
 use Rattle.messages.specs.declared.Message.{Message}
 use Rattle.phases.specs.declared.Shop.{Shop}
 use Rattle.inputs.specs.Inputs.{run_verdict}

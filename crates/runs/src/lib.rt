@@ -2,6 +2,7 @@
 // Each field is copied into a list of numbers, the run is made on these, and the slots of sending are copied back.
 // Uses refusals, rows, trees, messages, phases, contention, inputs, events and wire.
 #![tactic(auto)]
+
 ghost use Rattle.std.specs.Prelude.{◌≡◌, min, ◌≤◌};
 ghost use Rattle.runs.specs.Slots.{slotted};
 ghost use Rattle.runs.specs.Work.{ColumnsOf, whole_of, TableRan};

@@ -1,9 +1,6 @@
 -- Of each field the first i are copied.
-use mathlib.Core.Path.{◌≡◌, refl}
 use Prim.Native.Nat.{◌-◌, ◌≤◌}
-use native.Mathlib.Omega.{arith}
-use Rattle.messages.specs.declared.Message.{Message}
-use Rattle.runs.proofs.ColumnLaws.{Column, column_next, column_end}
+use Rattle.runs.proofs.ColumnLaws.{Column}
 use Rattle.runs.proofs.columns_of.Given as goal
 
 abbrev pub invariant-loop-i : goal.invariant-loop-i

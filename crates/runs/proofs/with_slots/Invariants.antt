@@ -1,10 +1,8 @@
 -- The first i records have their slots of sending.
-use mathlib.Core.Path.{◌≡◌, refl, ◌∙◌}
+use mathlib.Core.Path.{◌≡◌}
 use Prim.Native.Nat.{◌-◌, ◌≤◌}
-use native.Mathlib.Omega.{arith}
-use lib.ListN.{length, length-set, take}
+use lib.ListN.{length, take}
 use Rattle.runs.specs.Slots.{slotted}
-use Rattle.runs.proofs.SlotLaws.{slots_next, slots_end}
 use Rattle.runs.proofs.with_slots.Given as goal
 
 abbrev pub invariant-loop-i : goal.invariant-loop-i
