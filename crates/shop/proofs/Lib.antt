@@ -1,4 +1,2 @@
-pub mod Items
-pub mod Shared
 pub mod TableLaws
 pub mod Theorems

@@ -2,6 +2,7 @@
 // Each copies the list into a table, has the table worked on, and copies it back: no call decides anything itself.
 // Uses refusals, trees, messages, records, withdrawals, phases, inputs, wire and runs.
 #![tactic(auto)]
+
 ghost use Rattle.shop.specs.Promise.{WithdrawalPromise, ShopPromise};
 
 use messages::Message;
