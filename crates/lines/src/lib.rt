@@ -2,6 +2,7 @@
 // `answer` reads the shop's text, runs the shop and writes its log and closing figures, or the line of a refusal.
 // Uses phases and refusals, and reading, wire and printing, which do the work.
 #![tactic(auto)]
+
 ghost use Rattle.std.specs.Prelude.{◌≡◌, ◌≤◌, min, length, replicate};
 ghost use Rattle.lines.specs.Promise.{AnswerPromise};
 ghost use Rattle.lines.specs.Work.{columns_text, Printed};

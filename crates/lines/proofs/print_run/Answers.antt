@@ -2,14 +2,15 @@
 use mathlib.Core.Path.{refl}
 use native.Mathlib.Omega.{arith}
 use lib.ListN.{length}
-use Rattle.lines.proofs.AnswerLaws.{none_sent, few_events, columns_printed}
+use Rattle.wire.proofs.BudgetLaws.{events_few}
+use Rattle.lines.proofs.AnswerLaws.{none_sent, columns_printed}
 use Rattle.lines.proofs.print_run.Goals as goal
 
 pub put_report-requires : goal.put_report-requires
 put_report-requires c =
     let s = c.args in
     let run = c.run-outcome in
-    let few = few_events s.shop s.owners.now s.stations.now s.arrivals.now s.relatives.now s.lengths.now _ _ run.result _ _ run.ensures in
+    let few = events_few s.shop s.owners.now s.stations.now s.arrivals.now s.relatives.now s.lengths.now _ _ _ run.result _ _ run.ensures in
     record { output = omega (arith, few, c.requires.1); rows = omega (arith, few, run.auto.log, c.log_places-log.ensures) }
 
 pub returns : goal.returns
