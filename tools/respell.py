@@ -114,9 +114,10 @@ def main():
     def respell(text, names, skip=frozenset()):
         def one(m):
             name = m.group()
-            # `X(k, t)` is the paper's way to write a worst count, in comments; in a quoted text X is a collision.
+            # X is the paper's word for a worst count in comments, and a collision in quoted texts.
             line = text[text.rfind("\n", 0, m.start()) + 1:m.start()]
-            if name in skip or (name == "X" and (text[m.end():m.end() + 1] == "(" or line.count('"') % 2)):
+            told = line.startswith(("--", "//")) and not text.startswith(" m n k", m.end())
+            if name in skip or (name == "X" and (told or line.count('"') % 2)):
                 return name
             return names.get(name, snake(name) if LOCAL.match(name) else name)
 

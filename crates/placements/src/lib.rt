@@ -1,6 +1,6 @@
 // Placements: k active leaves whose bare search costs exactly the worst count X(k, t) (docs/RULES.md, section 6).
 // The leaves are shared out among the m subtrees as the theorem on worst counts says, down to subtrees with one
-// active leaf or none; no counts are computed and no memory is wanted. worst_of does not grow with k: few leaves go in
+// active leaf or none; no counts are computed and no memory is wanted. X does not grow with k: few leaves go in
 // pairs, which collide far down, many leaves are spread evenly.
 // Uses refusals and trees.
 #![tactic(auto)]

@@ -32,7 +32,7 @@ cost_for_lem m n zero below h f = omega (arith, worst_of_zero m n h)
 cost_for_lem m n (suc zero) below h f = zero-le
 cost_for_lem m n (suc (suc k)) below h f = f (omega arith)
 
--- THE COST IS AT MOST worst_of
+-- THE COST IS AT MOST X
 pub cost_below : (m n : ℕ) (s : List ℕ) → 0 < m → length s ≡ m ^ n → part_cost m n s ≤ worst_of m n (ones s)
 cost_below m zero s h e = cost_for_lem m 0 (ones s) 0 h (λ g. absurd (omega (arith, ones_le s, pow-zero m)))
 cost_below m (suc n) s h e =

@@ -1,4 +1,4 @@
--- Placements that cost worst_of: none and one active leaf, the children of a node one behind the other, and one for every k.
+-- Placements that cost X: none and one active leaf, the children of a node one behind the other, and one for every k.
 use mathlib.Core.Path.{◌≡◌, refl, sym, ap, ◌∙◌}
 use mathlib.Core.Bool.{Bool, true, false, ◌&&◌}
 use mathlib.Core.List.{List, [], ◌∷◌, ◌++◌}
@@ -95,7 +95,7 @@ cost_many zero below h = absurd (omega arith)
 cost_many (suc zero) below h = absurd (omega arith)
 cost_many (suc (suc k)) below h = refl
 
--- a node over its children, where they cost what worst_of wants
+-- a node over its children, where they cost what X wants
 pub place_node : (m n k : ℕ) (ks s : List ℕ) → 2 ≤ k → Way m (suc (m ^ n)) k ks → worst_of m (suc n) k ≡ suc (valued (worst m n) ks) → PlacedKids m n ks s → Placed m (suc n) k s
 place_node m n k ks s h w e q = record {
   leaves = q.leaves ∙ ap (λ (x : ℕ). x * m ^ n) w.count ∙ sym (pow-succ' m n);
@@ -130,7 +130,7 @@ place_tree m n (suc (suc k)) h le ih =
     let q = place_kids m n ih w.0 w.1.small in
     (q.0, place_node m n (suc (suc k)) w.0 q.0 (omega arith) w.1 w.2 q.1)
 
--- worst_of IS ATTAINED: there is a placement for every k
+-- X IS ATTAINED: there is a placement for every k
 pub placement : (m n k : ℕ) → 2 ≤ m → k ≤ m ^ n → (s : List ℕ) × Placed m n k s
 placement m zero k h le = place_leaf m k (omega arith) le
 placement m (suc n) k h le = place_tree m n k (omega arith) le (λ i g. placement m n i h g)

@@ -3,8 +3,8 @@
 // so that bare searches, time searches and static searches stand on one law.
 // Uses refusals and rows.
 //
-//   m 2, t 4, leaves 0 and 1 active:          (0,4) worst_of            slot 0
-//                                        (0,2) worst_of     (2,2) -     slots 1 and 4
+//   m 2, t 4, leaves 0 and 1 active:          (0,4) X            slot 0
+//                                        (0,2) X     (2,2) -     slots 1 and 4
 //                                     (0,1) 0  (1,1) 1           slots 2 and 3
 #![tactic(auto)]
 
