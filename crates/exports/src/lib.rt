@@ -2,6 +2,7 @@
 // Each makes the call and gives its answer as numbers.
 // Uses the crates of the calls, figures for the numbers, and messages and phases for what is lent.
 #![tactic(auto)]
+
 ghost use Rattle.lines.specs.Promise.{AnswerPromise};
 ghost use Rattle.exports.specs.Promise.{
   SearchExported,
