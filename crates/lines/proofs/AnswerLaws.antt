@@ -50,7 +50,7 @@ none_sent sent stations n e f few = ap (λ (k : ℕ). take k sent) (sub-zero n) 
 -- what the report of a run over the columns is
 module _ (S : Shop) (owners stations arrivals relatives lengths sent log : List ℕ) (o : Outcome) (sent' log' : List ℕ)
     (r : RunPromise S owners stations arrivals relatives lengths sent log 4096 o sent' log') where
-  few_events : (reading_of o).events ≤ 4096
+  pub few_events : (reading_of o).events ≤ 4096
   few_events = events_few S owners stations arrivals relatives lengths sent log 4096 o sent' log' r
 
   pub columns_printed : sent ≡ unmarked stations → length log ≡ 65536 → (d : List ℕ) (n : ℕ) (d' : List ℕ) → Reported d log' o n d'
