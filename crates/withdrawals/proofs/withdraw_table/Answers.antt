@@ -1,7 +1,12 @@
--- Where the verdict grants, the two loops come one behind the other.
+-- A refused withdrawal is turned back; where the verdict grants, the two loops come one behind the other.
 use Rattle.std.proofs.Common.{sym, ◌∙◌}
-use Rattle.withdrawals.proofs.LoopLaws.{cleared}
+use Rattle.withdrawals.proofs.LoopLaws.{turned_back, cleared}
 use Rattle.withdrawals.proofs.withdraw_table.Goals as goal
+
+pub returns-in-Refused : goal.returns-in-Refused
+returns-in-Refused c =
+    let s = c.args in
+    turned_back s.station s.count s.table c.in-Refused.refusal (sym c.in-Refused.is ∙ c.withdrawal_verdict-verdict.ensures)
 
 pub returns-in-Granted : goal.returns-in-Granted
 returns-in-Granted c =
