@@ -10,22 +10,21 @@ use mathlib.Core.List.{List, [], ◌∷◌}
 use borrow.Author.Tests.{leb-true, le-leb, lt-leb}
 use Rattle.refusals.specs.declared.Refusal.{Refusal}
 use Rattle.refusals.specs.declared.Refusal.TheVariants.{Branching, LeafCount, LeafList, LeafByte, ActiveCount, Stations, ClassNumbers, IndexTable, Messages, Budget, LogRoom, ReferenceTime, Text}
-use Rattle.refusals.specs.declared.Verdict.{Verdict}
-use Rattle.refusals.specs.declared.Verdict.TheVariants.{Granted, Refused}
-use Rattle.refusals.specs.Numbers.{number_of, within, ask, and_then}
+use Rattle.std.specs.Prelude.{Ok, Err}
+use Rattle.refusals.specs.Numbers.{Verdict, granted, number_of, within, ask, and_then}
 
 -- ---- tests
 
-never : {A : Type 0} (r : Refusal) → Refused r ≡ Granted → A
+never : {A : Type 0} (r : Refusal) → Err r ≡ granted → A
 never r e = let z : ◌≡◌ {A = ℕ} 0 1 = cc in absurd (omega arith)
 
-pub ask_granted : (b : Bool) (r : Refusal) (v : Verdict) → ask b r v ≡ Granted → (b ≡ true) × (v ≡ Granted)
+pub ask_granted : (b : Bool) (r : Refusal) (v : Verdict) → ask b r v ≡ granted → (b ≡ true) × (v ≡ granted)
 ask_granted true r v e = (refl, e)
 ask_granted false r v e = never r e
 
-pub then_granted : (v w : Verdict) → and_then v w ≡ Granted → (v ≡ Granted) × (w ≡ Granted)
-then_granted Granted w e = (refl, e)
-then_granted (Refused r) w e = never r e
+pub then_granted : (v w : Verdict) → and_then v w ≡ granted → (v ≡ granted) × (w ≡ granted)
+then_granted (Ok _) w e = (refl, e)
+then_granted (Err r) w e = never r e
 
 pub both : (a b : Bool) → (a && b) ≡ true → (a ≡ true) × (b ≡ true)
 both true b e = (refl, e)
@@ -45,7 +44,7 @@ above_range lo hi x h g = simp (le-leb lo x h, lt-leb x hi g)
 
 -- ---- tests one after the other, as a function comes to them
 
-pub turned : (b : Bool) (r : Refusal) (v : Verdict) → b ≡ false → Refused r ≡ ask b r v
+pub turned : (b : Bool) (r : Refusal) (v : Verdict) → b ≡ false → Err r ≡ ask b r v
 turned b r v e = rw e refl
 
 pub passed : (b : Bool) (r : Refusal) (v w : Verdict) → b ≡ true → w ≡ v → w ≡ ask b r v

@@ -1,15 +1,15 @@
 -- Refusals and their numbers, and how a call's checks are put in order (docs/RULES.md, section 2).
 --
 --   number_of r          the number that a script is told for the refusal r
---   verdict_number v    the same of a verdict, 0 where nothing is refused
+--   Verdict             what checks come to: nothing, or a refusal
+--   granted             nothing is refused
+--   verdict_number v    the number of a verdict's refusal, 0 where nothing is refused
 --   within lo hi x      whether x lies from lo to hi
 --   ask test r v        v where the test holds, else the refusal r
 --   and_then v w         w where v grants, else v: the first refusal in order is given
-use Rattle.std.specs.Prelude.{Bool, true, false, ◌&&◌, ℕ, leb}
+use Rattle.std.specs.Prelude.{Bool, true, false, ◌&&◌, ℕ, leb, Result, Ok, Err}
 use Rattle.refusals.specs.declared.Refusal.{Refusal}
 use Rattle.refusals.specs.declared.Refusal.TheVariants.{Branching, LeafCount, LeafList, LeafByte, ActiveCount, Stations, ClassNumbers, IndexTable, Messages, Budget, LogRoom, ReferenceTime, Text}
-use Rattle.refusals.specs.declared.Verdict.{Verdict}
-use Rattle.refusals.specs.declared.Verdict.TheVariants.{Granted, Refused}
 
 -- the number of a refusal
 abbrev pub number_of : Refusal → ℕ
@@ -27,10 +27,18 @@ number_of LogRoom = 11
 number_of ReferenceTime = 12
 number_of Text = 13
 
+-- what checks come to: nothing, or the first refusal in their order
+abbrev pub Verdict : Type 0
+Verdict = Result (Unit {0}) Refusal
+
+-- nothing is refused
+abbrev pub granted : Verdict
+granted = Ok tt
+
 -- the number of a verdict, 0 for none
 abbrev pub verdict_number : Verdict → ℕ
-verdict_number Granted = 0
-verdict_number (Refused r) = number_of r
+verdict_number (Ok _) = 0
+verdict_number (Err r) = number_of r
 
 -- a number's range, both ends in it
 abbrev pub within : ℕ → ℕ → ℕ → Bool
@@ -39,9 +47,9 @@ within lo hi x = leb lo x && leb x hi
 -- one test: where it fails, its refusal
 abbrev pub ask : Bool → Refusal → Verdict → Verdict
 ask true r v = v
-ask false r v = Refused r
+ask false r v = Err r
 
 -- the checks of v come before those of w
 abbrev pub and_then : Verdict → Verdict → Verdict
-and_then Granted w = w
-and_then (Refused r) w = Refused r
+and_then (Ok _) w = w
+and_then (Err r) w = Err r

@@ -7,7 +7,7 @@ ghost use Rattle.std.specs.Prelude.{◌≡◌};
 ghost use Rattle.refusals.specs.Numbers.{number_of};
 
 // Why an input is refused, in the order of the numbers 1 to 13.
-#[derive(Clone, Copy)]
+#[derive(Clone, Copy, Debug, PartialEq, Eq)]
 pub enum Refusal {
     Branching,
     LeafCount,
@@ -24,12 +24,8 @@ pub enum Refusal {
     Text,
 }
 
-// What a call's checks come to.
-#[derive(Clone, Copy)]
-pub enum Verdict {
-    Granted,
-    Refused(Refusal),
-}
+// What a call's checks come to: the first refusal in their order, or none.
+pub type Verdict = Result<(), Refusal>;
 
 // The number that a script is told.
 pub fn number(refusal: Refusal) -> u32

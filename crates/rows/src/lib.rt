@@ -12,7 +12,7 @@ ghost use Rattle.rows.specs.Log.{phase_number, state_number, row_bytes, over};
 pub const NO_MESSAGE: u16 = 65535;
 
 // The part of the protocol that a slot belongs to.
-#[derive(Clone, Copy)]
+#[derive(Clone, Copy, Debug, PartialEq, Eq)]
 pub enum Phase {
     Free,
     Time,
@@ -21,14 +21,14 @@ pub enum Phase {
 }
 
 // What the wire shows in a slot.
-#[derive(Clone, Copy)]
+#[derive(Clone, Copy, Debug, PartialEq, Eq)]
 pub enum Channel {
     Silence,
     Busy,
     Collision,
 }
 
-#[derive(Clone, Copy)]
+#[derive(Clone, Copy, Debug, PartialEq, Eq)]
 pub struct Row {
     pub slot: u32,
     pub phase: Phase,

@@ -7,9 +7,9 @@ use native.Mathlib.Nat.{pow-le-pow_left, pow-le-pow_right, not-suc-le-zero, suc-
 use native.Mathlib.Omega.{arith}
 use lib.Dec.{ltb, eqb}
 use borrow.Author.Tests.{eqb-true, eqb-false, ltb-true, ltb-false, lt-ltb, le-ltb}
-use Rattle.refusals.specs.declared.Verdict.TheVariants.{Granted, Refused}
+use Rattle.std.specs.Prelude.{Err}
 use Rattle.refusals.specs.declared.Refusal.TheVariants.{Branching, LeafCount}
-use Rattle.refusals.specs.Numbers.{within, ask}
+use Rattle.refusals.specs.Numbers.{granted, within, ask}
 use Rattle.refusals.proofs.Verdicts.{ask_granted, within_true, in_range, below_range, above_range}
 use Rattle.trees.specs.Shape.{power_from, height_of, tree_verdict, nodes, Tree}
 use Rattle.trees.proofs.Powers.{le_or_lt, pow_inj}
@@ -101,13 +101,13 @@ too_many m t h = rw (lt-ltb 1024 t h, height_of) refl
 
 -- ---- the verdict
 
-pub few_branches : (m t : ℕ) → m < 2 → Refused Branching ≡ tree_verdict m t
+pub few_branches : (m t : ℕ) → m < 2 → Err Branching ≡ tree_verdict m t
 few_branches m t h = rw (below_range 2 16 m h) refl
 
-pub many_branches : (m t : ℕ) → 2 ≤ m → 16 < m → Refused Branching ≡ tree_verdict m t
+pub many_branches : (m t : ℕ) → 2 ≤ m → 16 < m → Err Branching ≡ tree_verdict m t
 many_branches m t h g = rw (above_range 2 16 m h g) refl
 
-pub by_height : (m t : ℕ) (b : Bool) → 2 ≤ m → m ≤ 16 → ltb 0 (height_of m t) ≡ b → ask b LeafCount Granted ≡ tree_verdict m t
+pub by_height : (m t : ℕ) (b : Bool) → 2 ≤ m → m ≤ 16 → ltb 0 (height_of m t) ≡ b → ask b LeafCount granted ≡ tree_verdict m t
 by_height m t b h g e = rw (in_range 2 16 m h g, e) refl
 
 -- what a granted tree is
@@ -117,10 +117,10 @@ pub record Grown (m t : ℕ) : Type 0 where
   pub tree : Tree m t
   pub leaves : t ≡ m ^ suc under
 
-pub grown : (m t : ℕ) → tree_verdict m t ≡ Granted → Grown m t
+pub grown : (m t : ℕ) → tree_verdict m t ≡ granted → Grown m t
 grown m t e =
-    let a = ask_granted (within 2 16 m) Branching (ask (ltb 0 (height_of m t)) LeafCount Granted) e in
-    let b = ask_granted (ltb 0 (height_of m t)) LeafCount Granted a.1 in
+    let a = ask_granted (within 2 16 m) Branching (ask (ltb 0 (height_of m t)) LeafCount granted) e in
+    let b = ask_granted (ltb 0 (height_of m t)) LeafCount granted a.1 in
     go (within_true 2 16 m a.0) (height_of m t) refl (ltb-true 0 (height_of m t) b.0)
   where
     go : (2 ≤ m) × (m ≤ 16) → (n : ℕ) → height_of m t ≡ n → 0 < height_of m t → Grown m t

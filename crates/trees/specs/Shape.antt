@@ -6,10 +6,8 @@
 --   rows_room m t       bytes for a row of each node, as the refusal of a short log has it
 --   Tree m t            t leaves make a tree or a subtree of one: what the functions on trees ask
 use Rattle.std.specs.Prelude.{true, false, ◌≡◌, ℕ, zero, suc, ◌*◌, ◌-◌, ◌/◌, ◌^◌, ◌≤◌, ltb, eqb}
-use Rattle.refusals.specs.declared.Verdict.{Verdict}
-use Rattle.refusals.specs.declared.Verdict.TheVariants.{Granted}
 use Rattle.refusals.specs.declared.Refusal.TheVariants.{Branching, LeafCount}
-use Rattle.refusals.specs.Numbers.{within, ask}
+use Rattle.refusals.specs.Numbers.{Verdict, granted, within, ask}
 
 -- the largest h from 1 to n with m ^ h = t, or 0
 abbrev pub power_from : ℕ → ℕ → ℕ → ℕ
@@ -22,7 +20,7 @@ height_of m t = elim (ltb 1024 t) [ true ↦ 0 | false ↦ power_from m t 10 ]
 
 -- refusal 1, then refusal 2
 abbrev pub tree_verdict : ℕ → ℕ → Verdict
-tree_verdict m t = ask (within 2 16 m) Branching (ask (ltb 0 (height_of m t)) LeafCount Granted)
+tree_verdict m t = ask (within 2 16 m) Branching (ask (ltb 0 (height_of m t)) LeafCount granted)
 
 -- the root, and the nodes of its m subtrees
 abbrev pub nodes : ℕ → ℕ → ℕ

@@ -36,16 +36,13 @@ fn is_leaf_count(m: u32, t: u32) -> bool
 pub fn tree_verdict(m: u32, t: u32) -> Verdict
     ensures { result ≡ tree_verdict m t }
 {
-    if m < 2 {
-        return Verdict::Refused(Refusal::Branching);
-    }
-    if 16 < m {
-        return Verdict::Refused(Refusal::Branching);
+    if !(2..=16).contains(&m) {
+        return Err(Refusal::Branching);
     }
     if is_leaf_count(m, t) {
-        Verdict::Granted
+        Ok(())
     } else {
-        Verdict::Refused(Refusal::LeafCount)
+        Err(Refusal::LeafCount)
     }
 }
 
