@@ -6,6 +6,9 @@
 ghost use Rattle.std.specs.Prelude.{◌≡◌};
 ghost use Rattle.refusals.specs.Numbers.{number_of};
 
+use std::error::Error;
+use std::fmt;
+
 // Why an input is refused, in the order of the numbers 1 to 13.
 #[derive(Clone, Copy, Debug, PartialEq, Eq)]
 pub enum Refusal {
@@ -47,3 +50,11 @@ pub fn number(refusal: Refusal) -> u32
         Refusal::Text => 13,
     }
 }
+
+impl fmt::Display for Refusal {
+    fn fmt<W: fmt::Write>(&self, f: &mut fmt::Formatter<W>) -> fmt::Result {
+        write!(f, "refused {}", number(*self))
+    }
+}
+
+impl Error for Refusal {}
