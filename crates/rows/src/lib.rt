@@ -39,24 +39,30 @@ pub struct Row {
     pub used: u16,
 }
 
-fn phase_number(phase: Phase) -> u8
-    ensures { result ≡ phase_number phase }
-{
-    match phase {
-        Phase::Free => 0,
-        Phase::Time => 1,
-        Phase::Static => 2,
-        Phase::Bare => 3,
+// The byte of a phase in a row.
+impl From<Phase> for u8 {
+    ghost from_gives = { λ phase byte. byte ≡ phase_number phase };
+
+    fn from(phase: Phase) -> u8 {
+        match phase {
+            Phase::Free => 0,
+            Phase::Time => 1,
+            Phase::Static => 2,
+            Phase::Bare => 3,
+        }
     }
 }
 
-fn state_number(state: Channel) -> u8
-    ensures { result ≡ state_number state }
-{
-    match state {
-        Channel::Silence => 0,
-        Channel::Busy => 1,
-        Channel::Collision => 2,
+// The byte of a channel's state in a row.
+impl From<Channel> for u8 {
+    ghost from_gives = { λ state byte. byte ≡ state_number state };
+
+    fn from(state: Channel) -> u8 {
+        match state {
+            Channel::Silence => 0,
+            Channel::Busy => 1,
+            Channel::Collision => 2,
+        }
     }
 }
 
@@ -64,23 +70,26 @@ fn state_number(state: Channel) -> u8
 fn row_bytes(row: Row) -> [u8; 16]
     ensures { result ≡ row_bytes row }
 {
-    let phase = row.phase;
-    let state = row.state;
+    let slot = row.slot.to_le_bytes();
+    let first = row.first.to_le_bytes();
+    let width = row.width.to_le_bytes();
+    let message = row.message.to_le_bytes();
+    let used = row.used.to_le_bytes();
     [
-        (row.slot % 256) as u8,
-        (row.slot / 256 % 256) as u8,
-        (row.slot / 65536 % 256) as u8,
-        (row.slot / 16777216) as u8,
-        phase_number(phase),
-        state_number(state),
-        (row.first % 256) as u8,
-        (row.first / 256) as u8,
-        (row.width % 256) as u8,
-        (row.width / 256) as u8,
-        (row.message % 256) as u8,
-        (row.message / 256) as u8,
-        (row.used % 256) as u8,
-        (row.used / 256) as u8,
+        slot[0],
+        slot[1],
+        slot[2],
+        slot[3],
+        u8::from(row.phase),
+        u8::from(row.state),
+        first[0],
+        first[1],
+        width[0],
+        width[1],
+        message[0],
+        message[1],
+        used[0],
+        used[1],
         0,
         0,
     ]
@@ -91,11 +100,7 @@ pub fn put_bytes(log: &mut [u8], at: usize, bytes: &[u8])
     requires { at + length bytes.now ≤ length log.old }
     ensures { log.new ≡ over log.old at bytes.now }
 {
-    let mut i = 0;
-    while i < bytes.len() {
-        log[at + i] = bytes[i];
-        i += 1;
-    }
+    log[at..at + bytes.len()].copy_from_slice(bytes);
 }
 
 // Row number `at` of the log.
