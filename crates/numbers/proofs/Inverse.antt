@@ -9,7 +9,7 @@ use lib.ListN.{length}
 use lib.Seq.{append_snoc}
 use borrow.Author.Tests.{ltb-true, ltb-false, le-leb, not-true, eqb-false}
 use Rattle.refusals.proofs.Verdicts.{both, in_range, within_true}
-use Rattle.numbers.specs.declared.Number.TheVariants.{Value}
+use Rattle.std.specs.Prelude.{Some}
 use Rattle.numbers.specs.Decimal.{digit, decimal, is_digit, all_digits, value_from, value_of, is_number, number_in, is_plain}
 use Rattle.numbers.proofs.WriteLaws.{decimal_small, decimal_more, one_more, digits_ten}
 
@@ -55,12 +55,12 @@ said_below (suc k) n h = go (ltb n 10) refl (λ m. said_below k (n / 10) (omega 
     go false e less = let m = ltb-false n 10 e in said_more n m (less m)
 
 -- READING UNDOES WRITING
-pub read_written : (n : ℕ) → n ≤ 4294967295 → number_in (decimal n) ≡ Value n
+pub read_written : (n : ℕ) → n ≤ 4294967295 → number_in (decimal n) ≡ Some n
 read_written n h =
     let s = said_below (suc n) n (omega arith) in
     let good : is_number (decimal n) ≡ true =
     simp (in_range 1 10 (length (decimal n)) s.some (digits_ten n (omega arith)), s.digits, le-leb (value_of (decimal n)) 4294967295 (omega (arith, s.value))) in
-    rw (good, number_in) (ap Value s.value)
+    rw (good, number_in) (ap Some s.value)
 
 -- ---- what was read is written
 

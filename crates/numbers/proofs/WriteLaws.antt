@@ -58,17 +58,24 @@ digits_few (suc k) n h = go (ltb n 10) refl (digits_few k (n / 10) (omega (arith
 pub digits_ten : (n : ℕ) → n < 4294967296 → length (decimal n) ≤ 10
 digits_ten n h = digits_few 9 n (omega arith)
 
--- one digit, written
-pub wrote_small : (d d' : List ℕ) (at n : ℕ) → n < 10 → at < length d → d' ≡ set d at (digit n) → d' ≡ over d at (decimal n)
-wrote_small d d' at n h room e = e ∙ set_over d at (digit n) room ∙ ap (over d at) (sym (decimal_small n h))
+-- the one digit of a number below ten
+pub wrote_small : (d d₁ : List ℕ) (at n last : ℕ) → n < 10 → at + length (decimal n) ≤ length d
+    → d₁ ≡ d → last ≡ at → set d₁ last (digit (n % 10)) ≡ over d at (decimal n)
+wrote_small d d₁ at n last h room e f =
+    let one = decimal_small n h in
+    ap (λ (x : List ℕ). set x last (digit (n % 10))) e
+    ∙ ap (λ (k : ℕ). set d k (digit (n % 10))) f
+    ∙ ap (λ (k : ℕ). set d at (digit k)) (omega arith)
+    ∙ set_over d at (digit n) (omega (arith, ap length one))
+    ∙ ap (over d at) (sym one)
 
 -- the last digit behind the others
-pub wrote_more : (d d₁ d' : List ℕ) (at n : ℕ) → 10 ≤ n → at + length (decimal n) ≤ length d
-    → d₁ ≡ over d at (decimal (n / 10)) → d' ≡ set d₁ (at + length (decimal (n / 10))) (digit (n % 10)) → d' ≡ over d at (decimal n)
-wrote_more d d₁ d' at n h room e f =
-    let last : List ℕ = digit (n % 10) ∷ [] in
+pub wrote_more : (d d₁ : List ℕ) (at n last : ℕ) → 10 ≤ n → at + length (decimal n) ≤ length d
+    → d₁ ≡ over d at (decimal (n / 10)) → last ≡ at + length (decimal (n / 10)) → set d₁ last (digit (n % 10)) ≡ over d at (decimal n)
+wrote_more d d₁ at n last h room e f =
     let long = one_more n h in
-    f ∙ ap (λ (x : List ℕ). set x (at + length (decimal (n / 10))) (digit (n % 10))) e
+    ap (λ (x : List ℕ). set x last (digit (n % 10))) e
+    ∙ ap (λ (k : ℕ). set (over d at (decimal (n / 10))) k (digit (n % 10))) f
     ∙ set_over (over d at (decimal (n / 10))) (at + length (decimal (n / 10))) (digit (n % 10)) (omega (arith, length_over d at (decimal (n / 10)) (omega arith)))
-    ∙ over_over d at (decimal (n / 10)) last (omega arith)
+    ∙ over_over d at (decimal (n / 10)) (digit (n % 10) ∷ []) (omega arith)
     ∙ ap (over d at) (sym (decimal_more n h))

@@ -8,21 +8,13 @@
 --   is_number bytes  1 to 10 digits up to 4,294,967,295, leading zeros allowed
 --   number_in bytes  the number that some bytes say, or that they say none
 --   is_plain bytes   no leading zero
-use Rattle.std.specs.Prelude.{Bool, true, false, not, ◌&&◌, List, [], ◌∷◌, ◌++◌, ℕ, zero, suc, ◌+◌, ◌*◌, ◌-◌, ◌/◌, ◌%◌, leb, ltb, eqb, length}
-use Prim.Native.Char.{code}
-use Prim.Native.String.{String, len, char_at}
+use Rattle.std.specs.Prelude.{Bool, true, false, not, ◌&&◌, List, [], ◌∷◌, ◌++◌, ℕ, zero, suc, ◌+◌, ◌*◌, ◌-◌, ◌/◌, ◌%◌, leb, ltb, eqb, length, codes, Option, Some, None}
+use Prim.Native.String.{String}
 use Rattle.refusals.specs.Numbers.{within}
-use Rattle.numbers.specs.declared.Number.{Number}
-use Rattle.numbers.specs.declared.Number.TheVariants.{Value, Bad}
-
--- k characters of a text, from place i on
-abbrev pub codes : String → ℕ → ℕ → List ℕ
-codes s i zero = []
-codes s i (suc k) = code (char_at s i) ∷ codes s (i + 1) k
 
 -- a quoted text
 abbrev pub text : String → List ℕ
-text s = codes s 0 (len s)
+text s = codes s
 
 -- 48 is the byte of 0
 abbrev pub digit : ℕ → ℕ
@@ -60,8 +52,8 @@ abbrev pub is_number : List ℕ → Bool
 is_number bytes = within 1 10 (length bytes) && (all_digits bytes && leb (value_of bytes) 4294967295)
 
 -- or none
-abbrev pub number_in : List ℕ → Number
-number_in bytes = elim (is_number bytes) [ true ↦ Value (value_of bytes) | false ↦ Bad ]
+abbrev pub number_in : List ℕ → Option ℕ
+number_in bytes = elim (is_number bytes) [ true ↦ Some (value_of bytes) | false ↦ None ]
 
 -- one digit, or a first digit other than 0
 abbrev pub is_plain : List ℕ → Bool
