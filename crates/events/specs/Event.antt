@@ -1,12 +1,12 @@
 -- One event (docs/RULES.md, section 10): what a slot's contenders lead to.
 --
 --   channel_of n             0 contenders are silence, 1 is success (busy), 2 and more collision
---   used_by c lengths i      the slots that the event lasts
+--   used_by c ms i           the slots that the event lasts
 --   message_by c i           the message of the row, none where nothing is sent
 --   row_of σ c message used   the row of an event in the state σ
 --   marked c ms i slot       the messages, message i with its slot of sending where it is sent
 --   event S table ms σ       the event in the state σ with the messages ms: row, state after it, messages after it
-use Rattle.std.specs.Prelude.{List, map, ℕ, zero, suc, ◌+◌, get_or, set}
+use Rattle.std.specs.Prelude.{List, ℕ, zero, suc, ◌+◌, get_or, set}
 use Rattle.rows.specs.declared.Row.{Row}
 use Rattle.rows.specs.declared.Phase.{Phase}
 use Rattle.rows.specs.declared.Phase.TheVariants.{Free as FreePhase, Time as TimePhase, Static as StaticPhase}
@@ -29,10 +29,10 @@ channel_of (suc zero) = Busy
 channel_of (suc (suc n)) = Collision
 
 -- a message lasts its length, silence and collision one slot
-abbrev pub used_by : Channel → List ℕ → ℕ → ℕ
-used_by Silence lengths i = 1
-used_by Busy lengths i = get_or lengths i 0
-used_by Collision lengths i = 1
+abbrev pub used_by : Channel → List Message → ℕ → ℕ
+used_by Silence ms i = 1
+used_by Busy ms i = (get_or ms i blank).length
+used_by Collision ms i = 1
 
 -- what the row names
 abbrev pub message_by : Channel → ℕ → ℕ
@@ -90,7 +90,7 @@ event_on S ms σ c i used =
 
 -- by the contenders
 abbrev pub event_by : Shop → List Message → State → Tally → Event
-event_by S ms σ t = event_on S ms σ (channel_of t.count) t.message (used_by (channel_of t.count) (map (λ m. m.length) ms) t.message)
+event_by S ms σ t = event_on S ms σ (channel_of t.count) t.message (used_by (channel_of t.count) ms t.message)
 
 -- in a state
 abbrev pub event : Shop → List ℕ → List Message → State → Event
