@@ -1,18 +1,22 @@
 -- One event, by what the calls of its code leave.
 use mathlib.Core.Path.{◌≡◌, refl, sym, ap, subst}
 use mathlib.Core.List.{List, map}
-use Prim.Native.Nat.{ℕ, zero, suc, ◌≤◌, ◌<◌}
+use Prim.Native.Nat.{ℕ, zero, suc, ◌+◌, ◌≤◌, ◌<◌}
 use native.Mathlib.Omega.{arith}
 use lib.ListN.{length, get_or}
 use Rattle.rows.specs.declared.Channel.{Channel}
 use Rattle.rows.specs.declared.Channel.TheVariants.{Silence, Busy, Collision}
 use Rattle.messages.specs.declared.Message.{Message}
+use Rattle.messages.specs.Lists.{TimedList}
 use Rattle.messages.proofs.KeptLaws.{bare, bare_set}
 use Rattle.phases.specs.declared.Shop.{Shop}
 use Rattle.phases.specs.declared.State.{State}
+use Rattle.phases.specs.declared.Standing.{Standing}
+use Rattle.phases.specs.declared.Standing.TheVariants.{Free, Time, Static}
+use Rattle.phases.specs.Work.{Sound, Within}
 use Rattle.contention.specs.Contenders.{contenders, last_of}
-use Rattle.events.specs.Event.{channel_of, used_by, message_by, marked, event_on, event}
-use Rattle.events.specs.Work.{SentInside}
+use Rattle.events.specs.Event.{channel_of, used_by, message_by, first_of, width_of, marked, event_on, event}
+use Rattle.events.specs.Work.{SendReady}
 
 -- two contenders or more
 pub many_collide : (n : ℕ) → (n ≡ 0 → ⊥) → (n ≡ 1 → ⊥) → Collision ≡ channel_of n
@@ -21,34 +25,37 @@ many_collide (suc zero) f g = absurd (g refl)
 many_collide (suc (suc n)) f g = refl
 
 -- a message is sent where one contends
-pub sent_inside : (n i : ℕ) (l : List ℕ) → (n ≡ 1 → i < length l) → (c : Channel) → c ≡ channel_of n → SentInside c i l
-sent_inside n i l h c e = subst (λ (x : Channel). SentInside x i l) (sym e) (go n h)
-  where
-    go : (n : ℕ) → (n ≡ 1 → i < length l) → SentInside (channel_of n) i l
-    go zero h = tt
-    go (suc zero) h = h refl
-    go (suc (suc n)) h = tt
+pub send_ready : (n i : ℕ) (ms : List Message) → (n ≡ 1 → i < length ms) → SendReady (channel_of n) ms i
+send_ready zero i ms h = tt
+send_ready (suc zero) i ms h = h refl
+send_ready (suc (suc n)) i ms h = tt
 
 -- an event lasts at most 1,000 slots
-pub used_few : (c : Channel) (lengths : List ℕ) (i : ℕ) → ((k : ℕ) → get_or lengths k 0 ≤ 1000) → used_by c lengths i ≤ 1000
-used_few Silence lengths i h = omega arith
-used_few Busy lengths i h = h i
-used_few Collision lengths i h = omega arith
+pub used_few : (c : Channel) (ms : List Message) (i : ℕ) → SendReady c ms i → TimedList ms → used_by c ms i ≤ 1000
+used_few Silence ms i h timed = omega arith
+used_few Busy ms i h timed = (timed i h).short
+used_few Collision ms i h timed = omega arith
 
 pub message_fits : (c : Channel) (i : ℕ) → i < 65536 → message_by c i < 65536
 message_fits Silence i h = omega arith
 message_fits Busy i h = h
 message_fits Collision i h = omega arith
 
+-- the first leaf and the width of where the wire stands are small
+pub standing_fits : (S : Shop) → Sound S → (φ : Standing) → Within S φ → first_of φ + width_of φ ≤ 1024
+standing_fits S n Free h = omega arith
+standing_fits S n (Time a w) h = omega (arith, h.inside, n.time.tree.few)
+standing_fits S n (Static a w p) h = omega (arith, h.0, n.static.tree.few)
+
 -- an event by the number of its contenders
 pub event_by : (S : Shop) (table : List ℕ) (ms : List Message) (σ : State) (n : ℕ)
     → length (contenders S table ms σ) ≡ n
     → event S table ms σ
     ≡ event_on S ms σ (channel_of n) (last_of (contenders S table ms σ))
-    (used_by (channel_of n) (map (λ m. m.length) ms) (last_of (contenders S table ms σ)))
+    (used_by (channel_of n) ms (last_of (contenders S table ms σ)))
 event_by S table ms σ n e =
     let i : ℕ = last_of (contenders S table ms σ) in
-    ap (λ (n : ℕ). event_on S ms σ (channel_of n) i (used_by (channel_of n) (map (λ m. m.length) ms) i)) e
+    ap (λ (n : ℕ). event_on S ms σ (channel_of n) i (used_by (channel_of n) ms i)) e
 
 -- ---- the messages, but for their slots of sending
 

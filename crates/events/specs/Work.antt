@@ -2,8 +2,11 @@
 --
 --   StepReady S ms t σ        what one event needs
 --   Stepped S ms t σ r ms'    what one event leaves: its row, the state and the messages after it
---   RowReady S σ message used    the row's numbers fit
+--   SendReady c ms i          where a message is sent, its number lies within the list
+--   RowReady σ message used   the row's numbers fit
 use Rattle.std.specs.Prelude.{◌≡◌, List, ℕ, ◌≤◌, ◌<◌, length}
+use Rattle.rows.specs.declared.Channel.{Channel}
+use Rattle.rows.specs.declared.Channel.TheVariants.{Silence, Busy, Collision}
 use Rattle.messages.specs.declared.Message.{Message}
 use Rattle.messages.specs.Lists.{TimedList}
 use Rattle.phases.specs.declared.Shop.{Shop}
@@ -11,7 +14,7 @@ use Rattle.phases.specs.declared.State.{State}
 use Rattle.phases.specs.Work.{Sound, Within}
 use Rattle.contention.specs.declared.Tally.{Tally}
 use Rattle.events.specs.declared.Step.{Step}
-use Rattle.events.specs.Event.{event_by}
+use Rattle.events.specs.Event.{first_of, width_of, event_by}
 
 pub record StepReady (S : Shop) (ms : List Message) (t : Tally) (σ : State) : Type 0 where
   pub sound : Sound S
@@ -28,8 +31,13 @@ pub record Stepped (S : Shop) (ms : List Message) (t : Tally) (σ : State) (r : 
   pub state : r.state ≡ (event_by S ms σ t).state
   pub messages : ms' ≡ (event_by S ms σ t).messages
 
-pub record RowReady (S : Shop) (σ : State) (message used : ℕ) : Type 0 where
-  pub sound : Sound S
-  pub within : Within S σ.standing
+abbrev pub SendReady : Channel → List Message → ℕ → Type 0
+SendReady Silence ms i = Unit {0}
+SendReady Busy ms i = i < length ms
+SendReady Collision ms i = Unit {0}
+
+pub record RowReady (σ : State) (message used : ℕ) : Type 0 where
+  pub first_fits : first_of σ.standing < 65536
+  pub width_fits : width_of σ.standing < 65536
   pub message_fits : message < 65536
   pub used_fits : used < 65536

@@ -3,11 +3,12 @@
 // Uses rows, messages, phases and contention.
 #![tactic(auto)]
 
-ghost use Rattle.std.specs.Prelude.{◌≡◌, ◌≤◌};
-ghost use Rattle.events.specs.Event.{channel_of, used_by, message_by, row_of};
-ghost use Rattle.events.specs.Work.{marked_by, RowReady, StepReady, Stepped, SentInside};
+ghost use Rattle.std.specs.Prelude.{◌≡◌, ◌≤◌, ◌<◌, length};
+ghost use Rattle.events.specs.Event.{channel_of, used_by, message_by, marked, row_of};
+ghost use Rattle.events.specs.Work.{SendReady, RowReady, StepReady, Stepped};
 
 use contention::Tally;
+use messages::Message;
 use phases::{Shop, Standing, State};
 use rows::{Channel, Phase, Row};
 
@@ -31,100 +32,53 @@ fn channel_of(count: u32) -> Channel
     }
 }
 
-// The slots that the event lasts: a message its length, silence and collision one.
-fn used_by(channel: Channel, lengths: &[u32], i: u32) -> u32
-    requires { SentInside channel i lengths.now }
-    ensures { result ≡ used_by channel lengths.now i }
+// The message of the event's row and the slots that the event lasts. A message that is sent gets its slot and lasts its
+// length; silence and collision last one slot.
+fn send(list: &mut [Message], channel: Channel, i: u32, slot: u32) -> (u32, u32)
+    requires { SendReady channel list.old i }
+    ensures message { result.0 ≡ message_by channel i }
+    ensures used { result.1 ≡ used_by channel list.old i }
+    ensures marks { list.new ≡ marked channel list.old i slot }
 {
     match channel {
-        Channel::Silence => 1,
         Channel::Busy => {
-            let at = i as usize;
-            lengths[at]
+            let message = &mut list[i as usize];
+            message.sent = slot;
+            (i, message.length)
         }
-        Channel::Collision => 1,
-    }
-}
-
-// The message of a row.
-fn message_by(channel: Channel, i: u32) -> u32
-    ensures { result ≡ message_by channel i }
-{
-    match channel {
-        Channel::Silence => messages::NO_MESSAGE,
-        Channel::Busy => i,
-        Channel::Collision => messages::NO_MESSAGE,
-    }
-}
-
-// A message that is sent gets its slot.
-fn mark(channel: Channel, sent: &mut [u32], i: u32, slot: u32)
-    requires { SentInside channel i sent.old }
-    ensures { sent.new ≡ marked_by channel sent.old i slot }
-{
-    match channel {
-        Channel::Silence => {}
-        Channel::Busy => {
-            let at = i as usize;
-            sent[at] = slot;
-        }
-        Channel::Collision => {}
+        Channel::Silence | Channel::Collision => (messages::NO_MESSAGE, 1),
     }
 }
 
 // The event's row.
-fn row_of(shop: Shop, state: State, channel: Channel, message: u32, used: u32) -> Row
-    requires { RowReady shop state message used }
+fn row_of(state: State, channel: Channel, message: u32, used: u32) -> Row
+    requires { RowReady state message used }
     ensures { result ≡ row_of state channel message used }
 {
-    let standing = state.standing;
-    match standing {
-        Standing::Free => Row {
-            slot: state.slot,
-            phase: Phase::Free,
-            state: channel,
-            first: 0,
-            width: 0,
-            message: message as u16,
-            used: used as u16,
-        },
-        Standing::Time { first, width } => Row {
-            slot: state.slot,
-            phase: Phase::Time,
-            state: channel,
-            first: first as u16,
-            width: width as u16,
-            message: message as u16,
-            used: used as u16,
-        },
-        Standing::Static { first, width, leaf } => Row {
-            slot: state.slot,
-            phase: Phase::Static,
-            state: channel,
-            first: first as u16,
-            width: width as u16,
-            message: message as u16,
-            used: used as u16,
-        },
+    let (phase, first, width) = match state.standing {
+        Standing::Free => (Phase::Free, 0, 0),
+        Standing::Time { first, width } => (Phase::Time, first, width),
+        Standing::Static { first, width, .. } => (Phase::Static, first, width),
+    };
+    Row {
+        slot: state.slot,
+        phase,
+        state: channel,
+        first: first as u16,
+        width: width as u16,
+        message: message as u16,
+        used: used as u16,
     }
 }
 
 // One event, by its contenders.
-pub fn one_event(shop: Shop, lengths: &[u32], sent: &mut [u32], tally: Tally, state: State) -> Step
-    requires { StepReady shop lengths.now sent.old tally state }
-    ensures { Stepped shop lengths.now sent.old tally state result sent.new }
+pub fn one_event(shop: Shop, list: &mut [Message], tally: Tally, state: State) -> Step
+    requires { StepReady shop list.old tally state }
+    ensures { Stepped shop list.old tally state result list.new }
 {
-    let count = tally.count;
-    let i = tally.message;
-    let slot = state.slot;
-    let channel = channel_of(count);
-    let used = used_by(channel, lengths, i);
-    mark(channel, sent, i, slot);
-    let message = message_by(channel, i);
-    let row = row_of(shop, state, channel, message, used);
-    let next = phases::after_event(shop, state, slot + used, channel);
-    Step {
-        state: next,
-        row: row,
-    }
+    let channel = channel_of(tally.count);
+    let (message, used) = send(list, channel, tally.message, state.slot);
+    let row = row_of(state, channel, message, used);
+    let state = phases::after_event(shop, state, state.slot + used, channel);
+    Step { state, row }
 }
