@@ -18,34 +18,11 @@ use Rattle.contention.specs.Contenders.{contenders, last_of}
 use Rattle.events.specs.Event.{channel_of, used_by, message_by, first_of, width_of, marked, event_on, event}
 use Rattle.events.specs.Work.{SendReady}
 
--- two contenders or more
-pub many_collide : (n : ℕ) → (n ≡ 0 → ⊥) → (n ≡ 1 → ⊥) → Collision ≡ channel_of n
-many_collide zero f g = absurd (f refl)
-many_collide (suc zero) f g = absurd (g refl)
-many_collide (suc (suc n)) f g = refl
-
--- a message is sent where one contends
-pub send_ready : (n i : ℕ) (ms : List Message) → (n ≡ 1 → i < length ms) → SendReady (channel_of n) ms i
-send_ready zero i ms h = tt
-send_ready (suc zero) i ms h = h refl
-send_ready (suc (suc n)) i ms h = tt
-
 -- an event lasts at most 1,000 slots
 pub used_few : (c : Channel) (ms : List Message) (i : ℕ) → SendReady c ms i → TimedList ms → used_by c ms i ≤ 1000
 used_few Silence ms i h timed = omega arith
 used_few Busy ms i h timed = (timed i h).short
 used_few Collision ms i h timed = omega arith
-
-pub message_fits : (c : Channel) (i : ℕ) → i < 65536 → message_by c i < 65536
-message_fits Silence i h = omega arith
-message_fits Busy i h = h
-message_fits Collision i h = omega arith
-
--- the first leaf and the width of where the wire stands are small
-pub standing_fits : (S : Shop) → Sound S → (φ : Standing) → Within S φ → first_of φ + width_of φ ≤ 1024
-standing_fits S n Free h = omega arith
-standing_fits S n (Time a w) h = omega (arith, h.inside, n.time.tree.few)
-standing_fits S n (Static a w p) h = omega (arith, h.0, n.static.tree.few)
 
 -- an event by the number of its contenders
 pub event_by : (S : Shop) (table : List ℕ) (ms : List Message) (σ : State) (n : ℕ)

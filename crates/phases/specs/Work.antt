@@ -1,11 +1,14 @@
 -- What the functions of a run ask of each other. No promise to a caller speaks of these.
 --
 --   Grown m t          a tree of two leaves or more
+--   next_in K b        the width of the next subtree from leaf b on, or none where no leaf remains
 --   Sound S            the shop's numbers are in range
 --   Subtree m t a w    a subtree of the tree of t leaves
 --   Within S φ         where the wire stands lies in its tree
-use Rattle.std.specs.Prelude.{◌≡◌, ℕ, suc, ◌+◌, ◌^◌, ◌%◌, ◌≤◌, ◌<◌}
+use Rattle.std.specs.Prelude.{◌≡◌, true, false, ℕ, suc, ◌+◌, ◌^◌, ◌%◌, ◌≤◌, ◌<◌, ltb, Option, Some, None}
 use Rattle.trees.specs.Shape.{Tree, height_of}
+use Rattle.trees.specs.Wire.{next_width}
+use Rattle.phases.specs.declared.Shape.{Shape}
 use Rattle.phases.specs.declared.Shop.{Shop}
 use Rattle.phases.specs.declared.Standing.{Standing}
 use Rattle.phases.specs.declared.Standing.TheVariants.{Free, Time, Static}
@@ -15,6 +18,14 @@ pub record Grown (m t : ℕ) : Type 0 where
   pub tree : Tree m t
   pub under : ℕ
   pub height : height_of m t ≡ suc under
+
+-- by the width that the wire tells
+abbrev pub next_in : Shape → ℕ → Option ℕ
+next_in K b =
+    elim (ltb b K.leaves) [
+      | true ↦ Some (next_width K.branches (height_of K.branches K.leaves) b)
+      | false ↦ None
+    ]
 
 pub record Sound (S : Shop) : Type 0 where
   pub time : Grown S.time.branches S.time.leaves

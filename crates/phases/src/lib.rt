@@ -6,9 +6,11 @@
 //   time search over: free where something was sent in it, else the reference time grows and it starts anew
 #![tactic(auto)]
 
-ghost use Rattle.std.specs.Prelude.{◌≡◌, ◌+◌, ◌≤◌};
-ghost use Rattle.phases.specs.After.{time_start, time_over, time_on, static_on, time_down, after_free, after_time, after_static, after};
-ghost use Rattle.phases.specs.Work.{Sound, Within};
+ghost use Rattle.std.specs.Prelude.{◌≡◌, ◌/◌, ◌<◌, ◌≤◌};
+ghost use Rattle.trees.specs.Shape.{height_of};
+ghost use Rattle.trees.specs.Wire.{next_width};
+ghost use Rattle.phases.specs.After.{time_start, time_over, time_on, static_on, time_down, after};
+ghost use Rattle.phases.specs.Work.{Grown, Sound, Within, next_in};
 
 use rows::Channel;
 
@@ -49,181 +51,107 @@ pub struct State {
     pub standing: Standing,
 }
 
-// Where a new time search starts; the root counts as searched.
-fn time_start(shop: Shop) -> Standing
-    requires { Sound shop }
-    ensures { result ≡ time_start shop }
-{
-    Standing::Time {
-        first: 0,
-        width: shop.time.leaves / shop.time.branches,
+impl Shape {
+    // The width of the next subtree where a search has finished those before leaf `end`; none where no leaf remains.
+    fn next_width(self, end: u32) -> Option<u32>
+        requires { Grown self.branches self.leaves }
+        ensures { result ≡ next_in self end }
+    {
+        if end < self.leaves {
+            Some(trees::next_width(self.branches, self.leaves, end))
+        } else {
+            None
+        }
     }
 }
 
-// The time search is over.
-fn time_over(shop: Shop, slot: u32, reference: u64, sent: bool) -> State
-    requires { Sound shop × (reference ≤ 9000000000000) }
-    ensures { result ≡ time_over shop slot reference sent }
-{
-    if sent {
-        return State {
-            reference: reference,
-            slot: slot,
-            sent: true,
-            standing: Standing::Free,
-        };
+impl Shop {
+    // Where a new time search starts; the root counts as searched.
+    fn time_start(self) -> Standing
+        requires { Sound self }
+        ensures { result ≡ time_start self }
+    {
+        Standing::Time {
+            first: 0,
+            width: self.time.leaves / self.time.branches,
+        }
     }
-    let compressed = (shop.compression * shop.width) as u64;
-    State {
-        reference: reference + compressed,
-        slot: slot,
-        sent: false,
-        standing: time_start(shop),
-    }
-}
 
-// The time subtree ending at b is finished.
-fn time_on(shop: Shop, slot: u32, reference: u64, sent: bool, b: u32) -> State
-    requires { Sound shop × (reference ≤ 9000000000000) }
-    ensures { result ≡ time_on shop slot reference sent b }
-{
-    if b < shop.time.leaves {
-        let width = trees::next_width(shop.time.branches, shop.time.leaves, b);
-        return State {
-            reference: reference,
-            slot: slot,
-            sent: sent,
-            standing: Standing::Time {
-                first: b,
-                width: width,
-            },
-        };
-    }
-    time_over(shop, slot, reference, sent)
-}
-
-// The static subtree ending at b, for the time leaf, is finished.
-fn static_on(shop: Shop, slot: u32, reference: u64, sent: bool, b: u32, leaf: u32) -> State
-    requires { Sound shop × (leaf ≤ 1024) }
-    ensures { result ≡ static_on shop slot reference sent b leaf }
-{
-    if b < shop.index.leaves {
-        let width = trees::next_width(shop.index.branches, shop.index.leaves, b);
-        return State {
-            reference: reference,
-            slot: slot,
-            sent: sent,
-            standing: Standing::Static {
-                first: b,
-                width: width,
-                leaf: leaf,
-            },
-        };
-    }
-    time_on(shop, slot, slot as u64, sent, leaf + 1)
-}
-
-// The state after an event of the free phase.
-fn after_free(shop: Shop, slot: u32, reference: u64, sent: bool, channel: Channel) -> State
-    requires { Sound shop }
-    ensures { result ≡ after_free shop slot reference sent channel }
-{
-    match channel {
-        Channel::Silence => State {
-            reference: reference,
-            slot: slot,
-            sent: sent,
-            standing: Standing::Free,
-        },
-        Channel::Busy => State {
-            reference: reference,
-            slot: slot,
-            sent: sent,
-            standing: Standing::Free,
-        },
-        Channel::Collision => State {
-            reference: slot as u64,
-            slot: slot,
-            sent: false,
-            standing: time_start(shop),
-        },
-    }
-}
-
-// The state after an event in the time subtree of that first leaf and width.
-fn after_time(
-    shop: Shop,
-    slot: u32,
-    reference: u64,
-    sent: bool,
-    channel: Channel,
-    first: u32,
-    width: u32,
-) -> State
-    requires { Sound shop × (reference ≤ 9000000000000) × (first + width ≤ 1024) }
-    ensures { result ≡ after_time shop slot reference sent channel first width }
-{
-    match channel {
-        Channel::Silence => time_on(shop, slot, reference, sent, first + width),
-        Channel::Busy => time_on(shop, slot, slot as u64, true, first + width),
-        Channel::Collision => {
-            let standing = below(shop, first, width);
-            State {
-                reference: reference,
-                slot: slot,
-                sent: sent,
-                standing: standing,
+    // Where a collision in a time subtree leads: to its first child, or from a leaf into the static search.
+    fn below(self, first: u32, width: u32) -> Standing
+        requires { Sound self }
+        ensures { result ≡ time_down self first width }
+    {
+        if 1 < width {
+            Standing::Time {
+                first,
+                width: width / self.time.branches,
+            }
+        } else {
+            Standing::Static {
+                first: 0,
+                width: self.index.leaves / self.index.branches,
+                leaf: first,
             }
         }
     }
 }
 
-// Where a collision in a time subtree leads: to its first child, or from a leaf into the static search.
-fn below(shop: Shop, first: u32, width: u32) -> Standing
-    requires { Sound shop }
-    ensures { result ≡ time_down shop first width }
-{
-    if 1 < width {
-        Standing::Time {
-            first: first,
-            width: width / shop.time.branches,
+impl State {
+    // The time search is over.
+    fn time_over(self, shop: Shop) -> State
+        requires { Sound shop × (self.reference ≤ 9000000000000) }
+        ensures { result ≡ time_over shop self.slot self.reference self.sent }
+    {
+        if self.sent {
+            return State {
+                standing: Standing::Free,
+                ..self
+            };
         }
-    } else {
-        Standing::Static {
-            first: 0,
-            width: shop.index.leaves / shop.index.branches,
-            leaf: first,
+        State {
+            reference: self.reference + u64::from(shop.compression * shop.width),
+            standing: shop.time_start(),
+            ..self
         }
     }
-}
 
-// The state after an event in the static subtree, for the time leaf.
-fn after_static(
-    shop: Shop,
-    slot: u32,
-    reference: u64,
-    sent: bool,
-    channel: Channel,
-    first: u32,
-    width: u32,
-    leaf: u32,
-) -> State
-    requires { Sound shop × (first + width ≤ 1024) × (leaf ≤ 1024) }
-    ensures { result ≡ after_static shop slot reference sent channel first width leaf }
-{
-    match channel {
-        Channel::Silence => static_on(shop, slot, reference, sent, first + width, leaf),
-        Channel::Busy => static_on(shop, slot, reference, true, first + width, leaf),
-        Channel::Collision => State {
-            reference: reference,
-            slot: slot,
-            sent: sent,
-            standing: Standing::Static {
-                first: first,
-                width: width / shop.index.branches,
-                leaf: leaf,
+    // The time subtree that ends at leaf `end` is finished.
+    fn time_on(self, shop: Shop, end: u32) -> State
+        requires { Sound shop × (self.reference ≤ 9000000000000) }
+        ensures { result ≡ time_on shop self.slot self.reference self.sent end }
+    {
+        match shop.time.next_width(end) {
+            Some(width) => State {
+                standing: Standing::Time { first: end, width },
+                ..self
             },
-        },
+            None => self.time_over(shop),
+        }
+    }
+
+    // The static subtree that ends at index `end`, for the time leaf, is finished.
+    fn static_on(self, shop: Shop, end: u32, leaf: u32) -> State
+        requires { Sound shop × (leaf ≤ 1024) }
+        ensures { result ≡ static_on shop self.slot self.reference self.sent end leaf }
+    {
+        match shop.index.next_width(end) {
+            Some(width) => State {
+                standing: Standing::Static {
+                    first: end,
+                    width,
+                    leaf,
+                },
+                ..self
+            },
+            None => {
+                let state = State {
+                    reference: u64::from(self.slot),
+                    ..self
+                };
+                state.time_on(shop, leaf + 1)
+            }
+        }
     }
 }
 
@@ -232,31 +160,41 @@ pub fn after_event(shop: Shop, state: State, slot: u32, channel: Channel) -> Sta
     requires { Sound shop × Within shop state.standing × (state.reference ≤ 9000000000000) }
     ensures { result ≡ after shop slot state channel }
 {
-    let standing = state.standing;
-    match standing {
-        Standing::Free => after_free(shop, slot, state.reference, state.sent, channel),
-        Standing::Time { first, width } => {
-            after_time(
-                shop,
-                slot,
-                state.reference,
-                state.sent,
-                channel,
-                first,
-                width,
-            )
+    let reference = u64::from(slot);
+    let state = State { slot, ..state };
+    match (state.standing, channel) {
+        (Standing::Free, Channel::Silence | Channel::Busy) => state,
+        (Standing::Free, Channel::Collision) => State {
+            reference,
+            sent: false,
+            standing: shop.time_start(),
+            ..state
+        },
+        (Standing::Time { first, width }, Channel::Silence) => state.time_on(shop, first + width),
+        (Standing::Time { first, width }, Channel::Busy) => State {
+            reference,
+            sent: true,
+            ..state
         }
-        Standing::Static { first, width, leaf } => {
-            after_static(
-                shop,
-                slot,
-                state.reference,
-                state.sent,
-                channel,
-                first,
-                width,
-                leaf,
-            )
+        .time_on(shop, first + width),
+        (Standing::Time { first, width }, Channel::Collision) => State {
+            standing: shop.below(first, width),
+            ..state
+        },
+        (Standing::Static { first, width, leaf }, Channel::Silence) => {
+            state.static_on(shop, first + width, leaf)
+        }
+        (Standing::Static { first, width, leaf }, Channel::Busy) => State {
+            sent: true,
+            ..state
+        }
+        .static_on(shop, first + width, leaf),
+        (Standing::Static { first, width, leaf }, Channel::Collision) => {
+            let width = width / shop.index.branches;
+            State {
+                standing: Standing::Static { first, width, leaf },
+                ..state
+            }
         }
     }
 }
