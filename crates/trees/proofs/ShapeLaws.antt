@@ -7,10 +7,9 @@ use native.Mathlib.Nat.{pow-le-pow_left, pow-le-pow_right, not-suc-le-zero, suc-
 use native.Mathlib.Omega.{arith}
 use lib.Dec.{ltb, eqb}
 use borrow.Author.Tests.{eqb-true, eqb-false, ltb-true, ltb-false, lt-ltb, le-ltb}
-use Rattle.std.specs.Prelude.{Err}
 use Rattle.refusals.specs.declared.Refusal.TheVariants.{Branching, LeafCount}
 use Rattle.refusals.specs.Numbers.{granted, within, ask}
-use Rattle.refusals.proofs.Verdicts.{ask_granted, within_true, in_range, below_range, above_range}
+use Rattle.refusals.proofs.Verdicts.{ask_granted, within_true}
 use Rattle.trees.specs.Shape.{power_from, height_of, tree_verdict, nodes, Tree}
 use Rattle.trees.proofs.Powers.{le_or_lt, pow_inj}
 
@@ -101,15 +100,6 @@ too_many m t h = rw (lt-ltb 1024 t h, height_of) refl
 
 -- ---- the verdict
 
-pub few_branches : (m t : ℕ) → m < 2 → Err Branching ≡ tree_verdict m t
-few_branches m t h = rw (below_range 2 16 m h) refl
-
-pub many_branches : (m t : ℕ) → 2 ≤ m → 16 < m → Err Branching ≡ tree_verdict m t
-many_branches m t h g = rw (above_range 2 16 m h g) refl
-
-pub by_height : (m t : ℕ) (b : Bool) → 2 ≤ m → m ≤ 16 → ltb 0 (height_of m t) ≡ b → ask b LeafCount granted ≡ tree_verdict m t
-by_height m t b h g e = rw (in_range 2 16 m h g, e) refl
-
 -- what a granted tree is
 pub record Grown (m t : ℕ) : Type 0 where
   pub under : ℕ
@@ -130,10 +120,6 @@ grown m t e =
         record { under = n; height = q; leaves = sym s.0; tree = record { height = suc n; leaves = sym s.0; branches = w.0; narrow = w.1; few = s.1 } }
 
 -- ---- nodes
-
-pub nodes_some : (m n : ℕ) → 1 ≤ nodes m n
-nodes_some m zero = omega arith
-nodes_some m (suc n) = omega arith
 
 -- a tree has less than twice as many nodes as leaves
 pub nodes_few : (m n : ℕ) → 2 ≤ m → nodes m n + 1 ≤ 2 * m ^ n

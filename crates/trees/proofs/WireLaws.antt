@@ -10,7 +10,7 @@ use native.Mathlib.Omega.{arith}
 use lib.Dec.{ltb, eqb}
 use lib.ListN.{length, drop, length-take}
 use lib.Seq.{take_all}
-use borrow.Author.Tests.{lt-ltb, le-ltb, eqb-true, eqb-false, eq-eqb, ne_eqb}
+use borrow.Author.Tests.{lt-ltb, le-ltb, eqb-true, eqb-false, ne_eqb}
 use Rattle.rows.specs.declared.Row.{Row}
 use Rattle.rows.specs.declared.Channel.TheVariants.{Collision}
 use Rattle.trees.specs.Shape.{height_of, nodes, Tree}
@@ -98,11 +98,6 @@ trying_some m n b w h r = omega (arith, r.power, one-le-pow r.height m (omega ar
 
 next_test : (m h b : ℕ) (t : Bool) → eqb (b % (m ^ h)) 0 ≡ t → next_height m (suc h) b ≡ elim t [ true ↦ h | false ↦ next_height m h b ]
 next_test m h b t e = rw (e, next_height) refl
-
-pub trying_found : (m n b w : ℕ) → b % w ≡ 0 → Trying m n b w → w ≡ next_width m n b
-trying_found m n b w e r =
-    let d : b % (m ^ r.height) ≡ 0 = rw r.power at e in
-    r.power ∙ ap (λ (h : ℕ). m ^ h) (sym (next_test m r.height b true (eq-eqb (b % (m ^ r.height)) 0 d)) ∙ r.rest)
 
 -- one power smaller, and still above none
 pub trying_next : (m n b w : ℕ) → 2 ≤ m → (b % w ≡ 0 → ⊥) → Trying m n b w → Trying m n b (w / m) × (w / m < w)
