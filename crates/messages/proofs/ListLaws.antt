@@ -1,64 +1,27 @@
--- The list of messages that the slices hold: its length, its places, a slot of sending set, and the list as a run begins.
+-- Lists of messages: a station's first message, a slot of sending set, the list as a run begins; and the list that
+-- slices of numbers hold, one for each field.
 use mathlib.Core.Path.{◌≡◌, refl, sym, ap, subst, ◌∙◌}
 use mathlib.Core.Bool.{Bool, true, false, not, ◌&&◌}
-use mathlib.Core.List.{List, [], ◌∷◌, map}
+use mathlib.Core.List.{List, [], ◌∷◌, ◌++◌, map}
 use mathlib.Core.Logic.{◌⊎◌, inl, inr, ⊎_elim}
 use Prim.Native.Nat.{ℕ, zero, suc, ◌+◌, ◌<◌}
-use native.Mathlib.Numerals.{add-one}
 use native.Mathlib.Omega.{arith}
 use lib.Dec.{eqb}
-use lib.ListN.{length, get_or, take, drop, set, replicate, length-set, length-map, length-replicate, replicate-append-replicate}
-use lib.Seq.{drop-cons, drop-length, take_all, take-suc-set, get_or-set_same, get_or-set_other}
-use borrow.Author.Tests.{eq-eqb, ne_eqb, eqb-true, eqb-false}
+use lib.ListN.{length, get_or, take, drop, set, replicate, length-set, length-map, length-replicate}
+use lib.Seq.{get_or-set_same, get_or-set_other}
+use borrow.Author.Tests.{eqb-true, eqb-false}
+use Rattle.std.proofs.lemmas.List.{get_or_default}
+use Rattle.std.proofs.lemmas.List.Edits.{map_over_more}
 use Rattle.messages.specs.declared.Message.{Message}
-use Rattle.messages.specs.Message.{unsent, none, blank, waits, first_among, first_message, sent_at, fresh, all_sent}
-use Rattle.messages.specs.Lists.{listed, all_marked, SameLength, Timed, TimedList, Found}
+use Rattle.messages.specs.Message.{unsent, none, blank, waits, first_message, sent_at, fresh, all_sent}
+use Rattle.messages.specs.Lists.{listed, all_marked, SameLength, Timed, TimedList, Runnable}
 use Rattle.messages.proofs.OrderLaws.{candidate, among}
-
--- ---- length and places
 
 -- the first n, of a list and of f of each
 pub map_take : {A B : Type 0} (f : A → B) (n : ℕ) (l : List A) → take n (map f l) ≡ map f (take n l)
 map_take f zero l = refl
 map_take f (suc n) [] = refl
 map_take f (suc n) (x ∷ l) = ap (λ q. f x ∷ q) (map_take f n l)
-
--- as many messages as stations
-pub length_listed : (stations arrivals relatives lengths sent : List ℕ) → length (listed stations arrivals relatives lengths sent) ≡ length stations
-length_listed [] a r l s = refl
-length_listed (x ∷ stations) a r l s = ap suc (length_listed stations (drop 1 a) (drop 1 r) (drop 1 l) (drop 1 s))
-
--- the record of what each slice has at i
-abbrev pub record_at : List ℕ → List ℕ → List ℕ → List ℕ → List ℕ → ℕ → Message
-record_at stations arrivals relatives lengths sent i =
-    record { station = get_or stations i 0; arrival = get_or arrivals i 0; relative = get_or relatives i 0; length = get_or lengths i 0; sent = get_or sent i 0 }
-
--- one place further on
-behind : (l : List ℕ) (i : ℕ) → get_or (drop 1 l) i 0 ≡ get_or l (suc i) 0
-behind [] i = refl
-behind (x ∷ l) i = refl
-
--- message i is that record
-pub listed_at : (stations arrivals relatives lengths sent : List ℕ) (i : ℕ) → i < length stations
-    → get_or (listed stations arrivals relatives lengths sent) i blank ≡ record_at stations arrivals relatives lengths sent i
-listed_at [] a r l s i h = absurd (omega arith)
-listed_at (x ∷ stations) a r l s zero h = refl
-listed_at (x ∷ stations) a r l s (suc i) h =
-    listed_at stations (drop 1 a) (drop 1 r) (drop 1 l) (drop 1 s) i (omega arith) ∙ simp (behind a i, behind r i, behind l i, behind s i)
-
--- a message that the code reads is in range
-pub timed_at : (stations arrivals relatives lengths sent : List ℕ) → TimedList (listed stations arrivals relatives lengths sent)
-    → (i : ℕ) → i < length stations → (m : Message) → m ≡ get_or (listed stations arrivals relatives lengths sent) i blank → Timed m
-timed_at stations a r l s t i h m e = subst Timed (sym e) (t i (omega (arith, length_listed stations a r l s)))
-
--- the loop of `first_message` at its end
-pub found : (stations arrivals relatives lengths sent : List ℕ) (slot station best i : ℕ) → i ≡ length stations
-    → best ≡ first_among (listed stations arrivals relatives lengths sent) slot station i → ((best ≡ none → ⊥) → best < i)
-    → Found stations arrivals relatives lengths sent slot station best
-found stations a r l s slot station best i e f low = record {
-  first = f ∙ ap (first_among (listed stations a r l s) slot station) (e ∙ sym (length_listed stations a r l s));
-  numbered = λ h. let k : best < i = low h in omega arith;
-}
 
 -- ---- a station's first message
 
@@ -89,23 +52,6 @@ module _ (ms : List Message) (slot station : ℕ) where
 
 -- ---- a slot of sending is set
 
--- one slot of sending set is one message sent at it
-pub listed_set : (stations arrivals relatives lengths sent : List ℕ) (i v : ℕ) → i < length stations → length sent ≡ length stations
-    → listed stations arrivals relatives lengths (set sent i v)
-    ≡ set (listed stations arrivals relatives lengths sent) i (sent_at v (get_or (listed stations arrivals relatives lengths sent) i blank))
-listed_set [] a r l s i v h e = absurd (omega arith)
-listed_set (x ∷ stations) a r l [] i v h e = absurd (omega arith)
-listed_set (x ∷ stations) a r l (y ∷ s) zero v h e = refl
-listed_set (x ∷ stations) a r l (y ∷ s) (suc i) v h e =
-    ap (λ (ms : List Message). record { station = x; arrival = get_or a 0 0; relative = get_or r 0 0; length = get_or l 0 0; sent = y } ∷ ms)
-    (listed_set stations (drop 1 a) (drop 1 r) (drop 1 l) s i v (omega arith) (omega arith))
-
--- the slices are still of one length
-pub same_set : (stations arrivals relatives lengths sent : List ℕ) (i v : ℕ) → SameLength stations arrivals relatives lengths sent
-    → SameLength stations arrivals relatives lengths (set sent i v)
-same_set stations a r l s i v h =
-    record { few = h.few; arrivals_too = h.arrivals_too; relatives_too = h.relatives_too; lengths_too = h.lengths_too; sent_too = simp length-set h.sent_too }
-
 -- a slot of sending has no part in the times
 timed_sent : (m : Message) (v : ℕ) → Timed m → Timed (sent_at v m)
 timed_sent m v t = record { arrives = t.arrives; lasts = t.lasts; short = t.short }
@@ -123,22 +69,13 @@ timed_set ms i v t j h = go (eqb j i) refl
         (rw (get_or-set_same ms i (sent_at v (get_or ms i blank)) blank (omega (arith, inside))) (timed_sent (get_or ms i blank) v (t i (omega (arith, inside)))))
     go false e = rw (get_or-set_other ms i j (sent_at v (get_or ms i blank)) blank (eqb-false j i e)) (t j inside)
 
--- the same of the slices
-pub timed_listed_set : (stations arrivals relatives lengths sent : List ℕ) (i v : ℕ) → i < length stations → length sent ≡ length stations
-    → TimedList (listed stations arrivals relatives lengths sent) → TimedList (listed stations arrivals relatives lengths (set sent i v))
-timed_listed_set stations a r l s i v h e t = rw (listed_set stations a r l s i v h e) (timed_set (listed stations a r l s) i v t)
+-- and a run can take it
+pub runnable_set : (ms : List Message) (i v : ℕ) → Runnable ms → Runnable (set ms i (sent_at v (get_or ms i blank)))
+runnable_set ms i v r = record { few = simp length-set r.few; timed = timed_set ms i v r.timed }
 
 -- ---- as a run begins
 
--- every slot unsent is the list as a run begins
-pub listed_fresh : (stations arrivals relatives lengths sent : List ℕ)
-    → listed stations arrivals relatives lengths (replicate (length stations) unsent) ≡ fresh (listed stations arrivals relatives lengths sent)
-listed_fresh [] a r l s = refl
-listed_fresh (x ∷ stations) a r l s =
-    ap (λ (ms : List Message). record { station = x; arrival = get_or a 0 0; relative = get_or r 0 0; length = get_or l 0 0; sent = unsent } ∷ ms)
-    (listed_fresh stations (drop 1 a) (drop 1 r) (drop 1 l) (drop 1 s))
-
--- one place of it
+-- one place of the list
 pub fresh_at : (ms : List Message) (i : ℕ) → i < length ms → get_or (fresh ms) i blank ≡ sent_at unsent (get_or ms i blank)
 fresh_at [] i h = absurd (omega arith)
 fresh_at (m ∷ ms) zero h = refl
@@ -150,13 +87,77 @@ timed_fresh ms t i h =
     let inside : i < length ms = omega (arith, length-map ms (sent_at unsent)) in
     rw (fresh_at ms i inside) (timed_sent (get_or ms i blank) unsent (t i inside))
 
+-- and a run can take it
+pub runnable_fresh : (ms : List Message) → Runnable ms → Runnable (fresh ms)
+runnable_fresh ms r = record { few = rw (length-map ms (sent_at unsent)) r.few; timed = timed_fresh ms r.timed }
+
+-- the loop of `clear_sent`: one message more
+pub cleared_more : (was ms : List Message) (i : ℕ) → i < length was → length ms ≡ length was → ms ≡ fresh (take i was) ++ drop i was
+    → set ms i (sent_at unsent (get_or ms i blank)) ≡ fresh (take (i + 1) was) ++ drop (i + 1) was
+cleared_more was ms i h e f =
+    let m = get_or ms i blank in
+    map_over_more (sent_at unsent) was ms i m h f (get_or_default ms i blank m (omega arith))
+
+-- ---- the list that slices hold
+
+-- as many messages as stations
+pub length_listed : (stations arrivals relatives lengths sent : List ℕ) → length (listed stations arrivals relatives lengths sent) ≡ length stations
+length_listed [] a r l s = refl
+length_listed (x ∷ stations) a r l s = ap suc (length_listed stations (drop 1 a) (drop 1 r) (drop 1 l) (drop 1 s))
+
+-- the record of what each slice has at i
+abbrev pub record_at : List ℕ → List ℕ → List ℕ → List ℕ → List ℕ → ℕ → Message
+record_at stations arrivals relatives lengths sent i =
+    record { station = get_or stations i 0; arrival = get_or arrivals i 0; relative = get_or relatives i 0; length = get_or lengths i 0; sent = get_or sent i 0 }
+
+-- one place further on
+behind : (l : List ℕ) (i : ℕ) → get_or (drop 1 l) i 0 ≡ get_or l (suc i) 0
+behind [] i = refl
+behind (x ∷ l) i = refl
+
+-- message i is that record
+pub listed_at : (stations arrivals relatives lengths sent : List ℕ) (i : ℕ) → i < length stations
+    → get_or (listed stations arrivals relatives lengths sent) i blank ≡ record_at stations arrivals relatives lengths sent i
+listed_at [] a r l s i h = absurd (omega arith)
+listed_at (x ∷ stations) a r l s zero h = refl
+listed_at (x ∷ stations) a r l s (suc i) h =
+    listed_at stations (drop 1 a) (drop 1 r) (drop 1 l) (drop 1 s) i (omega arith) ∙ simp (behind a i, behind r i, behind l i, behind s i)
+
+-- one slot of sending set is one message sent at it
+pub listed_set : (stations arrivals relatives lengths sent : List ℕ) (i v : ℕ) → i < length stations → length sent ≡ length stations
+    → listed stations arrivals relatives lengths (set sent i v)
+    ≡ set (listed stations arrivals relatives lengths sent) i (sent_at v (get_or (listed stations arrivals relatives lengths sent) i blank))
+listed_set [] a r l s i v h e = absurd (omega arith)
+listed_set (x ∷ stations) a r l [] i v h e = absurd (omega arith)
+listed_set (x ∷ stations) a r l (y ∷ s) zero v h e = refl
+listed_set (x ∷ stations) a r l (y ∷ s) (suc i) v h e =
+    ap (λ (ms : List Message). record { station = x; arrival = get_or a 0 0; relative = get_or r 0 0; length = get_or l 0 0; sent = y } ∷ ms)
+    (listed_set stations (drop 1 a) (drop 1 r) (drop 1 l) s i v (omega arith) (omega arith))
+
+-- the slices are still of one length
+pub same_set : (stations arrivals relatives lengths sent : List ℕ) (i v : ℕ) → SameLength stations arrivals relatives lengths sent
+    → SameLength stations arrivals relatives lengths (set sent i v)
+same_set stations a r l s i v h =
+    record { few = h.few; arrivals_too = h.arrivals_too; relatives_too = h.relatives_too; lengths_too = h.lengths_too; sent_too = simp length-set h.sent_too }
+
+-- and the list is still in range
+pub timed_listed_set : (stations arrivals relatives lengths sent : List ℕ) (i v : ℕ) → i < length stations → length sent ≡ length stations
+    → TimedList (listed stations arrivals relatives lengths sent) → TimedList (listed stations arrivals relatives lengths (set sent i v))
+timed_listed_set stations a r l s i v h e t = rw (listed_set stations a r l s i v h e) (timed_set (listed stations a r l s) i v t)
+
+-- every slot unsent is the list as a run begins
+pub listed_fresh : (stations arrivals relatives lengths sent : List ℕ)
+    → listed stations arrivals relatives lengths (replicate (length stations) unsent) ≡ fresh (listed stations arrivals relatives lengths sent)
+listed_fresh [] a r l s = refl
+listed_fresh (x ∷ stations) a r l s =
+    ap (λ (ms : List Message). record { station = x; arrival = get_or a 0 0; relative = get_or r 0 0; length = get_or l 0 0; sent = unsent } ∷ ms)
+    (listed_fresh stations (drop 1 a) (drop 1 r) (drop 1 l) (drop 1 s))
+
 -- the slices are of one length then too
 pub same_fresh : (stations arrivals relatives lengths sent : List ℕ) → SameLength stations arrivals relatives lengths sent
     → SameLength stations arrivals relatives lengths (replicate (length stations) unsent)
 same_fresh stations a r l s h =
     record { few = h.few; arrivals_too = h.arrivals_too; relatives_too = h.relatives_too; lengths_too = h.lengths_too; sent_too = length-replicate (length stations) unsent }
-
--- ---- all sent
 
 -- the slots of sending alone tell whether all are sent
 pub all_sent_listed : (stations arrivals relatives lengths sent : List ℕ) → length sent ≡ length stations
@@ -166,23 +167,3 @@ all_sent_listed [] a r l (y ∷ s) e = absurd (omega arith)
 all_sent_listed (x ∷ stations) a r l [] e = absurd (omega arith)
 all_sent_listed (x ∷ stations) a r l (y ∷ s) e =
     ap (λ (b : Bool). not (eqb y unsent) && b) (all_sent_listed stations (drop 1 a) (drop 1 r) (drop 1 l) s (omega arith))
-
--- ---- the loop of `all_sent`: the slots from i on
-
-module _ (sent : List ℕ) (i : ℕ) (h : i < length sent) where
-  pub marked_stop : get_or sent i 0 ≡ unsent → all_marked (drop i sent) ≡ false
-  marked_stop e = rw (drop-cons sent i 0 h, eq-eqb _ _ e) refl
-
-  pub marked_next : (get_or sent i 0 ≡ unsent → ⊥) → all_marked (drop i sent) ≡ all_marked (drop (i + 1) sent)
-  marked_next f = rw (drop-cons sent i 0 h, ne_eqb _ _ f, add-one) refl
-
-pub marked_end : (sent : List ℕ) (i : ℕ) → i ≡ length sent → all_marked (drop i sent) ≡ true
-marked_end sent i e = ap (λ (n : ℕ). all_marked (drop n sent)) e ∙ ap all_marked (drop-length sent)
-
--- ---- the loop of `clear_sent`: the slots before i
-
-pub cleared_next : (sent : List ℕ) (i : ℕ) → i < length sent → take i sent ≡ replicate i unsent → take (i + 1) (set sent i unsent) ≡ replicate (i + 1) unsent
-cleared_next sent i h e = rw (add-one, take-suc-set sent i unsent h, e) (replicate-append-replicate i 1 unsent ∙ ap (λ (n : ℕ). replicate n unsent) (add-one i))
-
-pub cleared_end : (was sent : List ℕ) (i : ℕ) → i ≡ length sent → take i sent ≡ replicate i unsent → length sent ≡ length was → sent ≡ replicate (length was) unsent
-cleared_end was sent i e f g = sym (take_all i sent (omega arith)) ∙ f ∙ ap (λ (n : ℕ). replicate n unsent) (e ∙ g)

@@ -1,16 +1,16 @@
--- Which message goes first, each law by the facts that the code's tests give.
-use mathlib.Core.Path.{◌≡◌, refl, sym, ap, subst, ◌∙◌}
+-- Which message waits, and which of a station's goes first.
+use mathlib.Core.Path.{◌≡◌, refl, sym, ap, subst}
 use mathlib.Core.Bool.{Bool, true, false, ◌&&◌, ◌||◌}
 use mathlib.Core.Logic.{◌⊎◌, inl, inr, ⊎_elim}
 use mathlib.Core.List.{List}
 use Prim.Native.Nat.{ℕ, zero, suc, ◌+◌, ◌<◌, ◌≤◌}
 use native.Mathlib.Numerals.{add-one}
 use native.Mathlib.Omega.{arith}
-use lib.Dec.{ltb, eqb}
+use lib.Dec.{eqb}
 use lib.ListN.{get_or}
-use borrow.Author.Tests.{lt-ltb, le-ltb, eq-eqb, ne_eqb, le-leb, lt-leb}
+use borrow.Author.Tests.{eq-eqb, ne_eqb, le-leb, lt-leb}
 use Rattle.messages.specs.declared.Message.{Message}
-use Rattle.messages.specs.Message.{unsent, none, blank, deadline_of, waits, goes_before, better, first_among}
+use Rattle.messages.specs.Message.{unsent, none, blank, waits, goes_before, better, first_among}
 
 -- ---- one message
 
@@ -26,18 +26,6 @@ module _ (m : Message) (slot : ℕ) where
 
   pub this_station : (station : ℕ) → m.station ≡ station → (eqb m.station station && waits slot m) ≡ waits slot m
   this_station station e = rw (eq-eqb _ _ e) refl
-
--- ---- two messages of one station
-
-module _ (a b : Message) where
-  pub before_smaller : deadline_of a < deadline_of b → goes_before a b ≡ true
-  before_smaller h = rw (lt-ltb _ _ h) refl
-
-  pub before_larger : deadline_of b < deadline_of a → goes_before a b ≡ false
-  before_larger h = rw (le-ltb (deadline_of a) (deadline_of b) (omega arith), ne_eqb (deadline_of a) (deadline_of b) (omega arith)) refl
-
-  pub before_equal : deadline_of a ≡ deadline_of b → goes_before a b ≡ ltb a.arrival b.arrival
-  before_equal h = rw (le-ltb (deadline_of a) (deadline_of b) (omega arith), eq-eqb (deadline_of a) (deadline_of b) h) refl
 
 -- ---- the better of two numbers
 
@@ -73,10 +61,6 @@ abbrev pub candidate : List Message → ℕ → ℕ → ℕ → Bool
 candidate ms slot station i = eqb (get_or ms i blank).station station && waits slot (get_or ms i blank)
 
 module _ (ms : List Message) (slot station : ℕ) where
-  -- by the record that the code reads
-  pub candidate_by : (i : ℕ) (m : Message) (b t : Bool) → m ≡ get_or ms i blank → b ≡ (eqb m.station station && waits slot m) → b ≡ t → candidate ms slot station i ≡ t
-  candidate_by i m b t e f g = sym (ap (λ (m : Message). eqb m.station station && waits slot m) e) ∙ sym f ∙ g
-
   -- one message more
   among_by : (i : ℕ) (t : Bool) → candidate ms slot station i ≡ t
       → first_among ms slot station (i + 1) ≡ elim t [ true ↦ better ms (first_among ms slot station i) i | false ↦ first_among ms slot station i ]
@@ -111,21 +95,3 @@ module _ (ms : List Message) (slot station : ℕ) where
           (λ q. subst (λ (k : ℕ). Among k (suc i)) (sym q) (inr (omega arith, e)))
           (λ q. subst (λ (k : ℕ). Among k (suc i)) (sym q) (more f i p))
           (better_cases ms f i)
-
--- ---- one turn of the loop over the messages: message i is a candidate, and is none
-
-module _ (ms : List Message) (slot station i old new : ℕ) (was : old ≡ first_among ms slot station i) (low : (old ≡ none → ⊥) → old < i) where
-  pub turn_with : candidate ms slot station i ≡ true → new ≡ better ms old i → (new ≡ first_among ms slot station (i + 1)) × ((new ≡ none → ⊥) → new < i + 1)
-  turn_with w e = (
-    e ∙ ap (λ (k : ℕ). better ms k i) was ∙ sym (among_with ms slot station i w),
-    λ h. ⊎_elim (λ p. omega arith) (λ p. kept (e ∙ p) h) (better_cases ms old i),
-  )
-    where
-      kept : new ≡ old → (new ≡ none → ⊥) → new < i + 1
-      kept p h = let l : old < i = low (λ q. h (p ∙ q)) in omega arith
-
-  pub turn_without : candidate ms slot station i ≡ false → new ≡ old → (new ≡ first_among ms slot station (i + 1)) × ((new ≡ none → ⊥) → new < i + 1)
-  turn_without w e = (
-    e ∙ was ∙ sym (among_without ms slot station i w),
-    λ h. let l : old < i = low (λ q. h (e ∙ q)) in omega arith,
-  )

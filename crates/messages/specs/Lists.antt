@@ -1,14 +1,14 @@
--- How lent slices of numbers, one for each field, make a list of messages; and what the functions on them ask.
+-- What the functions on a list of messages ask, and how slices of numbers, one for each field, make a list.
 --
 --   listed stations arrivals relatives lengths sent    the list of messages that the slices hold
 --   all_marked sent      no slot of sending is unsent
 --   SameLength ..        the slices are of one length, at most 512
 --   Timed m              the times of m are in range, so that its deadline fits
 --   TimedList ms         each message is
---   Found .. slot station r    r is the number of the station's first message, which is in the list, or none
+--   Runnable ms          they are at most 512, each in range
 use Rattle.std.specs.Prelude.{◌≡◌, Bool, true, not, ◌&&◌, List, [], ◌∷◌, ℕ, ◌≤◌, ◌<◌, eqb, length, get_or, drop}
 use Rattle.messages.specs.declared.Message.{Message}
-use Rattle.messages.specs.Message.{blank, unsent, none, first_message}
+use Rattle.messages.specs.Message.{blank, unsent}
 
 -- as many messages as stations
 abbrev pub listed : List ℕ → List ℕ → List ℕ → List ℕ → List ℕ → List Message
@@ -40,7 +40,7 @@ pub record Timed (m : Message) : Type 0 where
 abbrev pub TimedList : List Message → Type 0
 TimedList ms = (i : ℕ) → i < length ms → Timed (get_or ms i blank)
 
--- what a search for a station's first message gives
-pub record Found (stations arrivals relatives lengths sent : List ℕ) (slot station r : ℕ) : Type 0 where
-  pub first : r ≡ first_message (listed stations arrivals relatives lengths sent) slot station
-  pub numbered : (r ≡ none → ⊥) → r < length stations
+-- at most 512 messages, each in range
+pub record Runnable (ms : List Message) : Type 0 where
+  pub few : length ms ≤ 512
+  pub timed : TimedList ms

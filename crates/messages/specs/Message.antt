@@ -10,7 +10,8 @@
 --   sent_at slot m      m with the slot of sending
 --   fresh ms            the messages as a run begins: every slot of sending is unsent, whatever it held
 --   all_sent ms         no unsent message remains, arrived or not
-use Rattle.std.specs.Prelude.{Bool, true, false, not, ◌&&◌, ◌||◌, List, [], ◌∷◌, map, ℕ, zero, suc, ◌+◌, ltb, leb, eqb, length, get_or}
+use Rattle.std.specs.Prelude.{Bool, true, false, not, ◌&&◌, ◌||◌, List, map, ℕ, zero, suc, ◌+◌, ltb, leb, eqb, length, get_or}
+use Rattle.std.specs.List.{list_all}
 use Rattle.messages.specs.declared.Message.{Message}
 
 -- no run lasts so long
@@ -64,5 +65,4 @@ fresh ms = map (sent_at unsent) ms
 
 -- each message is sent
 abbrev pub all_sent : List Message → Bool
-all_sent [] = true
-all_sent (m ∷ ms) = not (eqb m.sent unsent) && all_sent ms
+all_sent ms = list_all (λ m. not (eqb m.sent unsent)) ms

@@ -1,16 +1,16 @@
 // Messages: one message, and which of a station's waiting messages goes first (docs/RULES.md, section 8).
-// The functions on one message take it as a record; the list of messages is lent as a slice of numbers for each field.
+// A list of messages is a slice of records; a message's number is its place there.
 // Uses nothing.
 #![tactic(auto)]
 
-ghost use Rattle.std.specs.Prelude.{◌≡◌, ◌&&◌, ◌<◌, eqb, length, get_or, replicate};
-ghost use Rattle.messages.specs.Message.{unsent, deadline_of, waits, goes_before, blank, better};
-ghost use Rattle.messages.specs.Lists.{listed, all_marked, Timed, SameLength, TimedList, Found};
+ghost use Rattle.std.specs.Prelude.{◌≡◌, ◌<◌, IfSome, length, unwrap_or};
+ghost use Rattle.messages.specs.Message.{none, deadline_of, waits, goes_before, first_message, fresh, all_sent};
+ghost use Rattle.messages.specs.Lists.{Timed, Runnable};
 
 // The slot of sending of a message that has not been sent.
 pub const UNSENT: u32 = 4294967295;
 
-// In place of a message's number where there is none.
+// What a row holds in place of a message's number where there is none.
 pub const NO_MESSAGE: u32 = 65535;
 
 #[repr(C)]
@@ -23,148 +23,63 @@ pub struct Message {
     pub sent: u32,
 }
 
-// The absolute deadline.
-pub fn deadline(message: Message) -> u32
-    requires { Timed message }
-    ensures { result ≡ deadline_of message }
-{
-    message.arrival + message.relative
-}
-
-// Whether the message has arrived by the slot and is unsent.
-fn is_waiting(message: Message, slot: u32) -> bool
-    ensures { result ≡ waits slot message }
-{
-    if slot < message.arrival {
-        return false;
+impl Message {
+    // The absolute deadline.
+    pub fn deadline(self) -> u32
+        requires { Timed self }
+        ensures { result ≡ deadline_of self }
+    {
+        self.arrival + self.relative
     }
-    message.sent == UNSENT
-}
 
-// Whether message a goes before message b of the same station, which has the lower number.
-fn goes_before(a: Message, b: Message) -> bool
-    requires { Timed a × Timed b }
-    ensures { result ≡ goes_before a b }
-{
-    let of_a = deadline(a);
-    let of_b = deadline(b);
-    if of_a < of_b {
-        return true;
+    // Whether the message has arrived by the slot and is unsent.
+    fn is_waiting(self, slot: u32) -> bool
+        ensures { result ≡ waits slot self }
+    {
+        self.arrival <= slot && self.sent == UNSENT
     }
-    if of_b < of_a {
-        return false;
-    }
-    a.arrival < b.arrival
-}
 
-// Message number i of the lent list.
-pub fn message_at(
-    stations: &[u32],
-    arrivals: &[u32],
-    relatives: &[u32],
-    lengths: &[u32],
-    sent: &[u32],
-    i: usize,
-) -> Message
-    requires { SameLength stations.now arrivals.now relatives.now lengths.now sent.now
-        × (i < length stations.now) }
-    ensures { result ≡ get_or (listed stations.now arrivals.now relatives.now
-        lengths.now sent.now) i blank }
-{
-    Message {
-        station: stations[i],
-        arrival: arrivals[i],
-        relative: relatives[i],
-        length: lengths[i],
-        sent: sent[i],
+    // Whether the message goes before the other of the same station, which has the lower number.
+    fn goes_before(self, other: Message) -> bool
+        requires { Timed self × Timed other }
+        ensures { result ≡ goes_before self other }
+    {
+        (self.deadline(), self.arrival) < (other.deadline(), other.arrival)
     }
 }
 
-// Whether the message is of the station and waits in the slot.
-fn is_candidate(message: Message, station: u32, slot: u32) -> bool
-    ensures { result ≡ (eqb message.station station && waits slot message) }
+// The number of the station's first message in the slot.
+#[tactic(auto, unfolding(crate::specs::Message::first_among, crate::specs::Message::better))]
+pub fn first_message(list: &[Message], station: u32, slot: u32) -> Option<u32>
+    requires { Runnable list.now }
+    ensures first { unwrap_or result none ≡ first_message list.now slot station }
+    ensures numbered { IfSome result (λ i. i < length list.now) }
 {
-    if message.station != station {
-        return false;
-    }
-    is_waiting(message, slot)
-}
-
-// Of the first message so far, or NO_MESSAGE, and message i, which has a higher number.
-fn better_of(
-    stations: &[u32],
-    arrivals: &[u32],
-    relatives: &[u32],
-    lengths: &[u32],
-    sent: &[u32],
-    best: u32,
-    i: usize,
-) -> u32
-    requires { SameLength stations.now arrivals.now relatives.now lengths.now sent.now
-        × TimedList (listed stations.now arrivals.now relatives.now lengths.now sent.now)
-        × (i < length stations.now) × ((best ≡ 65535 → ⊥) → best < length stations.now) }
-    ensures { result ≡ better (listed stations.now arrivals.now relatives.now
-        lengths.now sent.now) best i }
-{
-    if best == NO_MESSAGE {
-        return i as u32;
-    }
-    let challenger = message_at(stations, arrivals, relatives, lengths, sent, i);
-    let holder = message_at(stations, arrivals, relatives, lengths, sent, best as usize);
-    if goes_before(challenger, holder) {
-        return i as u32;
-    }
-    best
-}
-
-// The number of the station's first message in the slot, or NO_MESSAGE.
-pub fn first_message(
-    stations: &[u32],
-    arrivals: &[u32],
-    relatives: &[u32],
-    lengths: &[u32],
-    sent: &[u32],
-    station: u32,
-    slot: u32,
-) -> u32
-    requires { SameLength stations.now arrivals.now relatives.now lengths.now sent.now
-        × TimedList (listed stations.now arrivals.now relatives.now lengths.now sent.now) }
-    ensures { Found stations.now arrivals.now relatives.now
-        lengths.now sent.now slot station result }
-{
-    let mut best = NO_MESSAGE;
-    let mut i: usize = 0;
-    while i < stations.len() {
-        let message = message_at(stations, arrivals, relatives, lengths, sent, i);
-        if is_candidate(message, station, slot) {
-            best = better_of(stations, arrivals, relatives, lengths, sent, best, i);
+    let mut best: Option<usize> = None;
+    for (i, message) in list.iter().enumerate() {
+        if message.station == station && message.is_waiting(slot) {
+            best = match best {
+                Some(holder) if !message.goes_before(list[holder]) => best,
+                _ => Some(i),
+            };
         }
-        i += 1;
     }
-    best
+    best.map(|i| i as u32)
 }
 
 // Whether no unsent message remains, arrived or not.
-pub fn all_sent(sent: &[u32]) -> bool
-    ensures { result ≡ all_marked sent.now }
+pub fn all_sent(list: &[Message]) -> bool
+    ensures { result ≡ all_sent list.now }
 {
-    let mut i: usize = 0;
-    while i < sent.len() {
-        if sent[i] == UNSENT {
-            return false;
-        }
-        i += 1;
-    }
-    true
+    list.iter().all(|message| message.sent != UNSENT)
 }
 
 // As a run begins: every slot of sending becomes UNSENT, whatever it held.
-pub fn clear_sent(sent: &mut [u32])
-    ensures { sent.new ≡ replicate (length sent.old) unsent }
+#[tactic(auto, using(crate::proofs::ListLaws::cleared_more))]
+pub fn clear_sent(list: &mut [Message])
+    ensures { list.new ≡ fresh list.old }
 {
-    let mut i: usize = 0;
-    while i < sent.len() {
-        sent[i] = UNSENT;
-        i += 1;
+    for message in list.iter_mut() {
+        message.sent = UNSENT;
     }
 }

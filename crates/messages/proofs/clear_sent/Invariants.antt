@@ -1,12 +1,7 @@
--- After i turns the first i slots are unsent.
-use mathlib.Core.Path.{◌≡◌}
-use Prim.Native.Nat.{◌≤◌, ◌-◌}
-use lib.ListN.{length, take, replicate}
-use Rattle.messages.specs.Message.{unsent}
+-- The messages passed so far are unsent, the rest is as it was.
+use Rattle.std.proofs.Common.{◌≡◌, ◌++◌, take, drop}
+use Rattle.messages.specs.Message.{fresh}
 use Rattle.messages.proofs.clear_sent.Given as goal
 
-abbrev pub invariant-loop-i : goal.invariant-loop-i
-invariant-loop-i l = (l.i ≤ length l.sent) × (take l.i l.sent ≡ replicate l.i unsent) × (length l.sent ≡ length l.initial.sent)
-
-abbrev pub decreases-loop-i : goal.decreases-loop-i
-decreases-loop-i l = length l.sent - l.i
+abbrev pub invariant-loop-message : goal.invariant-loop-message
+invariant-loop-message l = l.list ≡ fresh (take l.message-index l.initial.list) ++ drop l.message-index l.initial.list
