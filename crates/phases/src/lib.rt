@@ -98,6 +98,16 @@ impl Shop {
 }
 
 impl State {
+    // The reference time becomes the present slot.
+    fn caught_up(self) -> State
+        ensures { result ≡ record self { reference = self.slot } }
+    {
+        State {
+            reference: u64::from(self.slot),
+            ..self
+        }
+    }
+
     // The time search is over.
     fn time_over(self, shop: Shop) -> State
         requires { Sound shop × (self.reference ≤ 9000000000000) }
@@ -144,13 +154,7 @@ impl State {
                 },
                 ..self
             },
-            None => {
-                let state = State {
-                    reference: u64::from(self.slot),
-                    ..self
-                };
-                state.time_on(shop, leaf + 1)
-            }
+            None => self.caught_up().time_on(shop, leaf + 1),
         }
     }
 }
@@ -160,23 +164,22 @@ pub fn after_event(shop: Shop, state: State, slot: u32, channel: Channel) -> Sta
     requires { Sound shop × Within shop state.standing × (state.reference ≤ 9000000000000) }
     ensures { result ≡ after shop slot state channel }
 {
-    let reference = u64::from(slot);
     let state = State { slot, ..state };
+    let heard = State {
+        sent: true,
+        ..state
+    };
     match (state.standing, channel) {
         (Standing::Free, Channel::Silence | Channel::Busy) => state,
         (Standing::Free, Channel::Collision) => State {
-            reference,
             sent: false,
             standing: shop.time_start(),
-            ..state
+            ..state.caught_up()
         },
         (Standing::Time { first, width }, Channel::Silence) => state.time_on(shop, first + width),
-        (Standing::Time { first, width }, Channel::Busy) => State {
-            reference,
-            sent: true,
-            ..state
+        (Standing::Time { first, width }, Channel::Busy) => {
+            heard.caught_up().time_on(shop, first + width)
         }
-        .time_on(shop, first + width),
         (Standing::Time { first, width }, Channel::Collision) => State {
             standing: shop.below(first, width),
             ..state
@@ -184,11 +187,9 @@ pub fn after_event(shop: Shop, state: State, slot: u32, channel: Channel) -> Sta
         (Standing::Static { first, width, leaf }, Channel::Silence) => {
             state.static_on(shop, first + width, leaf)
         }
-        (Standing::Static { first, width, leaf }, Channel::Busy) => State {
-            sent: true,
-            ..state
+        (Standing::Static { first, width, leaf }, Channel::Busy) => {
+            heard.static_on(shop, first + width, leaf)
         }
-        .static_on(shop, first + width, leaf),
         (Standing::Static { first, width, leaf }, Channel::Collision) => {
             let width = width / shop.index.branches;
             State {
