@@ -1,81 +1,50 @@
--- What is kept of a list and how much of it is withdrawn: of two lists put together, and of one record.
-use mathlib.Core.Path.{◌≡◌, refl, ap, ◌∙◌}
-use mathlib.Core.Bool.{Bool, true, false}
-use mathlib.Core.List.{List, [], ◌∷◌, ◌++◌, append-nil}
-use Prim.Native.Nat.{ℕ, suc, ◌+◌, ◌<◌}
-use native.Mathlib.Numerals.{add-one}
+-- What is kept of a list and how much of it is withdrawn; and a list whose first places are what is kept.
+use mathlib.Core.Path.{◌≡◌, refl, sym, ap, ◌∙◌}
+use mathlib.Core.Bool.{not}
+use mathlib.Core.List.{List, ◌++◌, append-nil}
+use Prim.Native.Nat.{ℕ, ◌+◌, ◌-◌, ◌≤◌}
 use native.Mathlib.Omega.{arith}
 use lib.Dec.{eqb}
-use lib.ListN.{length, take, get_or, replicate, length-append, length-replicate}
-use lib.Seq.{take-suc}
-use borrow.Author.Tests.{eq-eqb, ne_eqb}
+use lib.ListN.{length, take, drop, replicate, length-append, length-drop, length-replicate}
+use borrow.Rule.Slice.PartMut.{put_mid, mid_of, post_of}
+use Rattle.std.proofs.lemmas.List.{drop_all, length-take, length-take-le}
+use Rattle.std.proofs.lemmas.List.Filters.{length-filter_both}
+use Rattle.std.proofs.lemmas.List.Sums.{length-filter}
+use Rattle.refusals.specs.Numbers.{Verdict, granted}
 use Rattle.messages.specs.declared.Message.{Message}
 use Rattle.messages.specs.Message.{blank}
 use Rattle.withdrawals.specs.Withdrawal.{kept_of, withdrawn_count, after_withdrawal}
+use Rattle.withdrawals.specs.Answer.{withdrawal_verdict, figures_by, list_by, figures_of, list_of}
 
--- a record before a list, by the test of its station
-abbrev pub kept_by : Bool → Message → List Message → List Message
-kept_by t m ms = elim t [ true ↦ ms | false ↦ m ∷ ms ]
-
-abbrev count_by : Bool → ℕ → ℕ
-count_by t n = elim t [ true ↦ suc n | false ↦ n ]
-
-kept_by_append : (t : Bool) (m : Message) (xs ys : List Message) → kept_by t m (xs ++ ys) ≡ kept_by t m xs ++ ys
-kept_by_append true m xs ys = refl
-kept_by_append false m xs ys = refl
-
-count_by_add : (t : Bool) (k n : ℕ) → count_by t (k + n) ≡ count_by t k + n
-count_by_add true k n = omega arith
-count_by_add false k n = refl
-
--- ---- two lists put together
-
-pub kept_append : (s : ℕ) (xs ys : List Message) → kept_of s (xs ++ ys) ≡ kept_of s xs ++ kept_of s ys
-kept_append s [] ys = refl
-kept_append s (x ∷ xs) ys = ap (kept_by (eqb x.station s) x) (kept_append s xs ys) ∙ kept_by_append (eqb x.station s) x (kept_of s xs) (kept_of s ys)
-
-pub count_append : (s : ℕ) (xs ys : List Message) → withdrawn_count s (xs ++ ys) ≡ withdrawn_count s xs + withdrawn_count s ys
-count_append s [] ys = omega arith
-count_append s (x ∷ xs) ys = ap (count_by (eqb x.station s)) (count_append s xs ys) ∙ count_by_add (eqb x.station s) (withdrawn_count s xs) (withdrawn_count s ys)
-
--- ---- every record is kept or withdrawn
-
-by_sum : (t : Bool) (m : Message) (ms : List Message) (g n : ℕ) → length ms + g ≡ n → length (kept_by t m ms) + count_by t g ≡ suc n
-by_sum true m ms g n e = omega (arith, e)
-by_sum false m ms g n e = omega (arith, e)
-
+-- every record is kept or withdrawn
 pub kept_withdrawn : (s : ℕ) (ms : List Message) → length (kept_of s ms) + withdrawn_count s ms ≡ length ms
-kept_withdrawn s [] = refl
-kept_withdrawn s (m ∷ ms) = by_sum (eqb m.station s) m (kept_of s ms) (withdrawn_count s ms) (length ms) (kept_withdrawn s ms)
+kept_withdrawn s ms =
+    omega (arith, length-filter_both (λ m. eqb m.station s) (λ m. not (eqb m.station s)) (λ m. refl) ms, length-filter (λ m. eqb m.station s) ms)
 
 -- so the list stays as long as it was
 pub length_after : (s : ℕ) (ms : List Message) → length (after_withdrawal s ms) ≡ length ms
-length_after s ms =
-    length-append (kept_of s ms) (replicate (withdrawn_count s ms) blank)
-    ∙ ap (λ (k : ℕ). length (kept_of s ms) + k) (length-replicate (withdrawn_count s ms) blank)
-    ∙ kept_withdrawn s ms
+length_after s ms = simp (length-append, length-replicate) (kept_withdrawn s ms)
 
--- ---- one record more
+-- where nothing is refused and the first k places are what is kept
+module _ (s : ℕ) (ms moved : List Message) (k : ℕ) (free : granted ≡ withdrawal_verdict s (length ms)) (long : length moved ≡ length ms) (within : k ≤ length ms)
+    (front : take k moved ≡ kept_of s ms) where
+  kept_is : k ≡ length (kept_of s ms)
+  kept_is = sym (length-take-le k moved (omega arith)) ∙ ap length front
 
-module _ (s : ℕ) (table : List Message) (i : ℕ) (h : i < length table) where
-  kept_next : kept_of s (take (i + 1) table) ≡ kept_of s (take i table) ++ kept_of s (get_or table i blank ∷ [])
-  kept_next = ap (λ (j : ℕ). kept_of s (take j table)) (add-one i) ∙ ap (kept_of s) (take-suc table i blank h) ∙ kept_append s (take i table) (get_or table i blank ∷ [])
+  withdrawn_is : length ms - k ≡ withdrawn_count s ms
+  withdrawn_is = omega (arith, kept_is, kept_withdrawn s ms)
 
-  count_next : withdrawn_count s (take (i + 1) table) ≡ withdrawn_count s (take i table) + withdrawn_count s (get_or table i blank ∷ [])
-  count_next = ap (λ (j : ℕ). withdrawn_count s (take j table)) (add-one i) ∙ ap (withdrawn_count s) (take-suc table i blank h) ∙ count_append s (take i table) (get_or table i blank ∷ [])
+  -- their count and that of the places behind are the figures
+  pub told : (0, k, length ms - k) ≡ figures_of s ms
+  told = ap (λ (n : ℕ). (0, n, length ms - k)) kept_is ∙ ap (λ (n : ℕ). (0, length (kept_of s ms), n)) withdrawn_is ∙ ap (λ (v : Verdict). figures_by v s ms) free
 
-  -- of the station: it is left out, and counted
-  module _ (e : (get_or table i blank).station ≡ s) where
-    pub kept_same : kept_of s (take (i + 1) table) ≡ kept_of s (take i table)
-    kept_same = kept_next ∙ ap (λ (t : Bool). kept_of s (take i table) ++ kept_by t (get_or table i blank) []) (eq-eqb (get_or table i blank).station s e) ∙ append-nil (kept_of s (take i table))
-
-    pub count_more : withdrawn_count s (take (i + 1) table) ≡ withdrawn_count s (take i table) + 1
-    count_more = count_next ∙ ap (λ (t : Bool). withdrawn_count s (take i table) + count_by t 0) (eq-eqb (get_or table i blank).station s e)
-
-  -- of another: it is kept
-  module _ (f : (get_or table i blank).station ≡ s → ⊥) where
-    pub kept_more : kept_of s (take (i + 1) table) ≡ kept_of s (take i table) ++ (get_or table i blank ∷ [])
-    kept_more = kept_next ∙ ap (λ (t : Bool). kept_of s (take i table) ++ kept_by t (get_or table i blank) []) (ne_eqb (get_or table i blank).station s f)
-
-    pub count_same : withdrawn_count s (take (i + 1) table) ≡ withdrawn_count s (take i table)
-    count_same = count_next ∙ ap (λ (t : Bool). withdrawn_count s (take i table) + count_by t 0) (ne_eqb (get_or table i blank).station s f) ∙ omega arith
+  -- with zeros in the places behind they are the list
+  pub laid : (zeros : List Message) → zeros ≡ replicate (length (mid_of k (length moved - k) moved)) blank → put_mid k (length moved - k) moved zeros ≡ list_of s ms
+  laid zeros are =
+      ap (λ (l : List Message). l ++ (zeros ++ post_of k (length moved - k) moved)) front
+      ∙ ap (λ (l : List Message). kept_of s ms ++ (zeros ++ l)) (drop_all (length moved - k) (drop k moved) (omega (arith, length-drop k moved)))
+      ∙ ap (λ (l : List Message). kept_of s ms ++ l) (append-nil zeros ∙ are ∙ ap (λ (n : ℕ). replicate n blank) behind)
+      ∙ ap (λ (v : Verdict). list_by v s ms) free
+    where
+      behind : length (mid_of k (length moved - k) moved) ≡ withdrawn_count s ms
+      behind = simp (length-take, length-drop) (omega (arith, withdrawn_is))

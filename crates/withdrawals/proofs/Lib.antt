@@ -1,3 +1,2 @@
 pub mod KeptLaws
-pub mod LoopLaws
 pub mod Theorems

@@ -5,34 +5,32 @@
 --   figures_by v station ms        the figures that a verdict and a list come to
 --   list_by v station ms           the list afterwards; a refusal leaves it as it came
 --   figures_of station ms, list_of station ms   the same by the verdict on the list
-use Rattle.std.specs.Prelude.{List, ℕ, leb, length}
+use Rattle.std.specs.Prelude.{List, ℕ, leb, length, Result, Ok, Err}
+use Rattle.refusals.specs.declared.Refusal.{Refusal}
 use Rattle.refusals.specs.declared.Refusal.TheVariants.{Stations, Messages}
-use Rattle.refusals.specs.declared.Verdict.{Verdict}
-use Rattle.refusals.specs.declared.Verdict.TheVariants.{Granted, Refused as Denied}
-use Rattle.refusals.specs.Numbers.{number_of, ask}
+use Rattle.refusals.specs.Numbers.{Verdict, granted, number_of, ask}
 use Rattle.messages.specs.declared.Message.{Message}
-use Rattle.withdrawals.specs.declared.Withdrawal.{Withdrawal}
-use Rattle.withdrawals.specs.declared.Withdrawal.TheVariants.{Withdrawn, Refused}
+use Rattle.withdrawals.specs.declared.Withdrawn.{Withdrawn}
 use Rattle.withdrawals.specs.Withdrawal.{kept_of, withdrawn_count, after_withdrawal}
 
 -- stations are numbered from 0 to 31
 abbrev pub withdrawal_verdict : ℕ → ℕ → Verdict
-withdrawal_verdict station count = ask (leb station 31) Stations (ask (leb count 512) Messages Granted)
+withdrawal_verdict station count = ask (leb station 31) Stations (ask (leb count 512) Messages granted)
 
 -- what an answer says
-abbrev pub figures : Withdrawal → ℕ × ℕ × ℕ
-figures (Withdrawn kept withdrawn) = (0, kept, withdrawn)
-figures (Refused r) = (number_of r, 0, 0)
+abbrev pub figures : Result Withdrawn Refusal → ℕ × ℕ × ℕ
+figures (Ok w) = (0, w.kept, w.withdrawn)
+figures (Err r) = (number_of r, 0, 0)
 
 -- the counts are those of the list as it came
 abbrev pub figures_by : Verdict → ℕ → List Message → ℕ × ℕ × ℕ
-figures_by Granted station ms = (0, length (kept_of station ms), withdrawn_count station ms)
-figures_by (Denied r) station ms = (number_of r, 0, 0)
+figures_by (Ok _) station ms = (0, length (kept_of station ms), withdrawn_count station ms)
+figures_by (Err r) station ms = (number_of r, 0, 0)
 
 -- the whole list
 abbrev pub list_by : Verdict → ℕ → List Message → List Message
-list_by Granted station ms = after_withdrawal station ms
-list_by (Denied r) station ms = ms
+list_by (Ok _) station ms = after_withdrawal station ms
+list_by (Err r) station ms = ms
 
 -- what a withdrawal answers
 abbrev pub figures_of : ℕ → List Message → ℕ × ℕ × ℕ

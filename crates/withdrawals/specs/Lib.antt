@@ -1,4 +1,3 @@
 pub mod Withdrawal
 pub mod Answer
-pub mod Work
 pub mod Examples
