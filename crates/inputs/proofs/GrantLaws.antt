@@ -8,26 +8,23 @@ use lib.Dec.{ltb, leb, eqb}
 use lib.ListN.{length, get_or}
 use borrow.Author.Tests.{ltb-true, leb-true, eqb-true}
 use Rattle.refusals.specs.declared.Refusal.TheVariants.{Stations, ClassNumbers, IndexTable, Messages, Budget, LogRoom}
-use Rattle.refusals.specs.declared.Verdict.TheVariants.{Granted}
-use Rattle.refusals.specs.Numbers.{within}
+use Rattle.refusals.specs.Numbers.{granted, within}
 use Rattle.refusals.proofs.Verdicts.{ask_granted, then_granted, both, within_true}
 use Rattle.trees.specs.Shape.{tree_verdict}
 use Rattle.trees.proofs.ShapeLaws.{grown}
 use Rattle.messages.specs.declared.Message.{Message}
 use Rattle.messages.specs.Message.{blank}
-use Rattle.messages.specs.Lists.{listed, SameLength, Timed, TimedList}
-use Rattle.messages.proofs.ListLaws.{length_listed}
+use Rattle.messages.specs.Lists.{Timed, TimedList}
 use Rattle.classes.specs.Class.{class_fits}
 use Rattle.classes.proofs.VerdictLaws.{fitting}
 use Rattle.phases.specs.declared.Shop.{Shop}
 use Rattle.phases.specs.Work.{Grown, Sound}
-use Rattle.inputs.specs.Inputs.{class_numbers, is_owner, are_owners, table_fits, message_fits, all_fit, messages_fit, same_lengths, shop_verdict, run_verdict, table_of, SmallOwners}
-use Rattle.inputs.proofs.TestLaws.{same_length}
+use Rattle.inputs.specs.Inputs.{class_numbers, is_owner, are_owners, table_fits, message_fits, all_fit, messages_fit, shop_verdict, run_verdict, table_of, SmallOwners}
 use Rattle.inputs.proofs.TableLaws.{length_table}
 
 -- ---- a tree, an owner, a message
 
-granted_tree : (m t : ℕ) → tree_verdict m t ≡ Granted → Grown m t
+granted_tree : (m t : ℕ) → tree_verdict m t ≡ granted → Grown m t
 granted_tree m t e = let g = grown m t e in record { tree = g.tree; under = g.under; height = g.height }
 
 small_owner : (z o : ℕ) → z ≤ 32 → is_owner z o ≡ true → o ≤ 255
@@ -84,20 +81,20 @@ pub record Passed (S : Shop) (owners : List ℕ) (whole : Bool) (ms : List Messa
   pub room : 16 * budget ≤ bytes
 
 pub passed : (S : Shop) (owners : List ℕ) (whole : Bool) (ms : List Message) (budget bytes : ℕ)
-    → run_verdict S owners whole ms budget bytes ≡ Granted → Passed S owners whole ms budget bytes
+    → run_verdict S owners whole ms budget bytes ≡ granted → Passed S owners whole ms budget bytes
 passed S owners whole ms budget bytes e =
     let time = then_granted (tree_verdict S.time.branches S.time.leaves) _ e in
     let index = then_granted (tree_verdict S.index.branches S.index.leaves) _ time.1 in
     let shop = then_granted (shop_verdict S owners) _ index.1 in
     let stationed = ask_granted (within 1 32 S.stations) Stations _ shop.0 in
     let numbered = ask_granted (class_numbers S) ClassNumbers _ stationed.1 in
-    let tabled = ask_granted (table_fits S owners) IndexTable Granted numbered.1 in
+    let tabled = ask_granted (table_fits S owners) IndexTable granted numbered.1 in
     let table = both (eqb (length owners) S.index.leaves) _ tabled.0 in
     let sending = ask_granted (whole && messages_fit S.stations ms) Messages _ shop.1 in
     let lists = both whole (messages_fit S.stations ms) sending.0 in
     let fitting = both (leb (length ms) 512) (all_fit S.stations ms) lists.1 in
     let budgeted = ask_granted (within 1 1000000 budget) Budget _ sending.1 in
-    let logged = ask_granted (leb (16 * budget) bytes) LogRoom Granted budgeted.1 in
+    let logged = ask_granted (leb (16 * budget) bytes) LogRoom granted budgeted.1 in
     let b = within_true 1 1000000 budget budgeted.0 in
     record {
       time = granted_tree S.time.branches S.time.leaves time.0;
@@ -130,23 +127,20 @@ passed_sound S owners whole ms budget bytes p =
       factor = leb-true _ _ numbers.1;
     }
 
-pub record Allowed (S : Shop) (owners stations arrivals relatives lengths sent : List ℕ) (budget bytes : ℕ) : Type 0 where
+pub record Allowed (S : Shop) (owners : List ℕ) (ms : List Message) (budget bytes : ℕ) : Type 0 where
   pub sound : Sound S
   pub owners_few : length owners ≤ 1024
   pub owners_small : SmallOwners owners
   pub table_long : length (table_of owners) ≡ 1024
-  pub long : SameLength stations arrivals relatives lengths sent
-  pub timed : TimedList (listed stations arrivals relatives lengths sent)
+  pub count : length ms ≤ 512
+  pub timed : TimedList ms
   pub some_budget : 1 ≤ budget
   pub few : budget ≤ 1000000
   pub room : 16 * budget ≤ bytes
 
-pub allowed : (S : Shop) (owners stations arrivals relatives lengths sent : List ℕ) (budget bytes : ℕ)
-    → run_verdict S owners (same_lengths stations arrivals relatives lengths sent) (listed stations arrivals relatives lengths sent) budget bytes ≡ Granted
-    → Allowed S owners stations arrivals relatives lengths sent budget bytes
-allowed S owners stations arrivals relatives lengths sent budget bytes e =
-    let ms : List Message = listed stations arrivals relatives lengths sent in
-    let whole : Bool = same_lengths stations arrivals relatives lengths sent in
+pub allowed : (S : Shop) (owners : List ℕ) (whole : Bool) (ms : List Message) (budget bytes : ℕ)
+    → run_verdict S owners whole ms budget bytes ≡ granted → Allowed S owners ms budget bytes
+allowed S owners whole ms budget bytes e =
     let p = passed S owners whole ms budget bytes e in
     let sound = passed_sound S owners whole ms budget bytes p in
     let fewer : length owners ≤ 1024 = omega (arith, p.index.tree.few, p.entries) in
@@ -155,8 +149,7 @@ allowed S owners stations arrivals relatives lengths sent budget bytes e =
       owners_few = fewer;
       owners_small = small_owners S.stations owners sound.stations p.owned;
       table_long = length_table owners fewer;
-      long = same_length stations arrivals relatives lengths sent p.complete
-          (omega (arith, p.count, length_listed stations arrivals relatives lengths sent));
+      count = p.count;
       timed = timed_list S.stations ms p.fit;
       some_budget = p.some_budget;
       few = p.few;

@@ -1,4 +1,2 @@
-pub mod TestLaws
 pub mod TableLaws
-pub mod VerdictLaws
 pub mod GrantLaws

@@ -1,29 +1,13 @@
--- The index table: one turn of its copy loop, its end, and its length.
-use mathlib.Core.Path.{◌≡◌, sym, ap, ◌∙◌}
+-- The index table: its front, and its length.
+use mathlib.Core.Path.{◌≡◌, ap, ◌∙◌}
 use mathlib.Core.List.{List, ◌++◌}
-use Prim.Native.Nat.{ℕ, ◌+◌, ◌≤◌, ◌<◌}
-use native.Mathlib.Numerals.{add-one}
+use Prim.Native.Nat.{ℕ, ◌≤◌}
 use native.Mathlib.Nat.{zero-add}
 use native.Mathlib.Omega.{arith}
-use lib.ListN.{length, get_or, set, take, drop, replicate, length-replicate}
-use lib.Seq.{paste, paste-suc, take-length}
+use lib.ListN.{length, drop, replicate, length-replicate}
 use Rattle.rows.specs.Log.{over}
 use Rattle.rows.proofs.LogLaws.{length_over}
 use Rattle.inputs.specs.Inputs.{free, table_of}
-
--- one owner more in the front of d
-pub front_next : (d s t : List ℕ) (i : ℕ) → i < length d → i < length s → t ≡ paste d 0 s i → set t i (get_or s i 0) ≡ paste d 0 s (i + 1)
-front_next d s t i hd hs e =
-    let z : 0 + i < length d = omega arith in
-    ap (λ (l : List ℕ). set l i (get_or s i 0)) e
-    ∙ ap (λ (k : ℕ). set (paste d 0 s i) k (get_or s i 0)) (sym (zero-add i))
-    ∙ paste-suc d 0 s i 0 z hs
-    ∙ ap (λ (k : ℕ). paste d 0 s k) (sym (add-one i))
-
--- all owners in it
-pub front_end : (d s t : List ℕ) (i : ℕ) → i ≡ length s → t ≡ paste d 0 s i → t ≡ over d 0 s
-front_end d s t i e f =
-    f ∙ ap (λ (k : ℕ). paste d 0 s k) e ∙ ap (λ (x : List ℕ). take 0 d ++ x ++ drop (0 + length s) d) (take-length s)
 
 -- the owners stand at its front
 front_over : (d s : List ℕ) → over d 0 s ≡ s ++ drop (length s) d

@@ -14,11 +14,10 @@
 --   run_verdict ..        the refusals of a run, in their order
 --   table_of owners        1,024 places that begin free, with the owners copied in
 --   SmallOwners owners    what copying them in asks
-use Rattle.std.specs.Prelude.{Bool, true, false, ◌&&◌, ◌||◌, List, [], ◌∷◌, ℕ, zero, suc, ◌*◌, ◌≤◌, ltb, leb, eqb, length, get_or, replicate}
-use Rattle.refusals.specs.declared.Verdict.{Verdict}
-use Rattle.refusals.specs.declared.Verdict.TheVariants.{Granted}
+use Rattle.std.specs.Prelude.{Bool, true, ◌&&◌, ◌||◌, List, ℕ, zero, suc, ◌*◌, ◌≤◌, ltb, leb, eqb, length, get_or, replicate}
+use Rattle.std.specs.List.{list_any, list_all}
 use Rattle.refusals.specs.declared.Refusal.TheVariants.{Stations, ClassNumbers, IndexTable, Messages, Budget, LogRoom}
-use Rattle.refusals.specs.Numbers.{within, ask, and_then}
+use Rattle.refusals.specs.Numbers.{Verdict, granted, within, ask, and_then}
 use Rattle.rows.specs.Log.{over}
 use Rattle.trees.specs.Shape.{tree_verdict}
 use Rattle.classes.specs.Class.{class_fits}
@@ -39,13 +38,11 @@ is_owner z o = ltb o z || eqb o free
 
 -- stations and free places
 abbrev pub are_owners : ℕ → List ℕ → Bool
-are_owners z [] = true
-are_owners z (o ∷ owners) = is_owner z o && are_owners z owners
+are_owners z owners = list_all (is_owner z) owners
 
 -- somewhere in the table
 abbrev pub holds : List ℕ → ℕ → Bool
-holds [] s = false
-holds (o ∷ owners) s = eqb o s || holds owners s
+holds owners s = list_any (λ o. eqb o s) owners
 
 -- stations 0 to n − 1
 abbrev pub all_own : List ℕ → ℕ → Bool
@@ -62,8 +59,7 @@ message_fits z m = ltb m.station z && (leb m.arrival 1000000000 && (within 1 100
 
 -- each message of a list
 abbrev pub all_fit : ℕ → List Message → Bool
-all_fit z [] = true
-all_fit z (m ∷ ms) = message_fits z m && all_fit z ms
+all_fit z ms = list_all (message_fits z) ms
 
 -- refusal 9
 abbrev pub messages_fit : ℕ → List Message → Bool
@@ -81,14 +77,14 @@ shop_verdict S owners =
     ask (within 1 32 S.stations) Stations
     (ask (class_numbers S) ClassNumbers
     (ask (table_fits S owners) IndexTable
-    Granted))
+    granted))
 
 -- refusals 10 and 11: a log of 16 bytes for each event of the budget
 abbrev pub budget_verdict : ℕ → ℕ → Verdict
 budget_verdict budget room =
     ask (within 1 1000000 budget) Budget
     (ask (leb (16 * budget) room) LogRoom
-    Granted)
+    granted)
 
 -- the tests in their order; `whole` is whether the list of messages came whole
 abbrev pub run_verdict : Shop → List ℕ → Bool → List Message → ℕ → ℕ → Verdict
