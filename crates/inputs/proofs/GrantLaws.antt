@@ -14,7 +14,7 @@ use Rattle.trees.specs.Shape.{tree_verdict}
 use Rattle.trees.proofs.ShapeLaws.{grown}
 use Rattle.messages.specs.declared.Message.{Message}
 use Rattle.messages.specs.Message.{blank}
-use Rattle.messages.specs.Lists.{Timed, TimedList}
+use Rattle.messages.specs.Lists.{Timed, TimedList, Runnable}
 use Rattle.classes.specs.Class.{class_fits}
 use Rattle.classes.proofs.VerdictLaws.{fitting}
 use Rattle.phases.specs.declared.Shop.{Shop}
@@ -132,8 +132,7 @@ pub record Allowed (S : Shop) (owners : List ℕ) (ms : List Message) (budget by
   pub owners_few : length owners ≤ 1024
   pub owners_small : SmallOwners owners
   pub table_long : length (table_of owners) ≡ 1024
-  pub count : length ms ≤ 512
-  pub timed : TimedList ms
+  pub runnable : Runnable ms
   pub some_budget : 1 ≤ budget
   pub few : budget ≤ 1000000
   pub room : 16 * budget ≤ bytes
@@ -149,8 +148,7 @@ allowed S owners whole ms budget bytes e =
       owners_few = fewer;
       owners_small = small_owners S.stations owners sound.stations p.owned;
       table_long = length_table owners fewer;
-      count = p.count;
-      timed = timed_list S.stations ms p.fit;
+      runnable = record { few = p.count; timed = timed_list S.stations ms p.fit };
       some_budget = p.some_budget;
       few = p.few;
       room = p.room;
