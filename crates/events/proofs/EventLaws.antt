@@ -1,9 +1,9 @@
 -- One event, by what the calls of its code leave.
-use mathlib.Core.Path.{◌≡◌, refl, sym, ap, subst}
+use mathlib.Core.Path.{◌≡◌, refl, ap}
 use mathlib.Core.List.{List, map}
-use Prim.Native.Nat.{ℕ, zero, suc, ◌+◌, ◌≤◌, ◌<◌}
+use Prim.Native.Nat.{ℕ, ◌≤◌}
 use native.Mathlib.Omega.{arith}
-use lib.ListN.{length, get_or}
+use lib.ListN.{length}
 use Rattle.rows.specs.declared.Channel.{Channel}
 use Rattle.rows.specs.declared.Channel.TheVariants.{Silence, Busy, Collision}
 use Rattle.messages.specs.declared.Message.{Message}
@@ -11,11 +11,8 @@ use Rattle.messages.specs.Lists.{TimedList}
 use Rattle.messages.proofs.KeptLaws.{bare, bare_set}
 use Rattle.phases.specs.declared.Shop.{Shop}
 use Rattle.phases.specs.declared.State.{State}
-use Rattle.phases.specs.declared.Standing.{Standing}
-use Rattle.phases.specs.declared.Standing.TheVariants.{Free, Time, Static}
-use Rattle.phases.specs.Work.{Sound, Within}
 use Rattle.contention.specs.Contenders.{contenders, last_of}
-use Rattle.events.specs.Event.{channel_of, used_by, message_by, first_of, width_of, marked, event_on, event}
+use Rattle.events.specs.Event.{channel_of, used_by, marked, event_on, event}
 use Rattle.events.specs.Work.{SendReady}
 
 -- an event lasts at most 1,000 slots
