@@ -1,31 +1,20 @@
 -- One text behind another, and the lines of a log's rows.
 use mathlib.Core.Path.{◌≡◌, refl, sym, ap, ◌∙◌, subst}
-use mathlib.Core.Bool.{true, false}
 use mathlib.Core.List.{List, [], ◌∷◌, ◌++◌, append_assoc, append-nil}
 use Prim.Native.Nat.{ℕ, zero, suc, ◌+◌, ◌*◌, ◌≤◌, ◌<◌}
 use native.Mathlib.Numerals.{add-one}
 use native.Mathlib.Omega.{arith}
-use borrow.Author.Tests.{eq-eqb, ne_eqb}
-use Prim.Native.Char.{code}
 use lib.ListN.{length, get_or, take, drop, length-append}
-use lib.Seq.{take_all, take-suc, take-take, take-append_seam, drop-append-add}
-use Rattle.refusals.specs.declared.Refusal.{Refusal}
-use Rattle.refusals.specs.Numbers.{number_of}
+use lib.Seq.{take-suc, take-take, take-append_seam, drop-append-add}
 use Rattle.rows.specs.declared.Row.{Row}
 use Rattle.rows.specs.declared.Phase.TheVariants.{Free}
 use Rattle.rows.specs.declared.Channel.TheVariants.{Silence}
 use Rattle.rows.specs.Log.{row_bytes, log_bytes, over}
-use Rattle.rows.proofs.LogLaws.{over_nil, over_over}
-use Rattle.wire.specs.declared.Figures.{Figures}
-use Rattle.wire.specs.declared.Outcome.TheVariants.{Done, Spent, Refused}
-use Rattle.numbers.specs.Decimal.{decimal}
+use Rattle.rows.proofs.LogLaws.{over_over}
 use Rattle.readback.specs.Back.{RowBack}
-use Rattle.printing.specs.Report.{column, message_text, row_text, rows_text, refused_text}
-use Rattle.printing.specs.Work.{Put, Listed, RowsPut, RunPut, Reported}
-
--- nothing
-pub put_nothing : (d : List ℕ) (at : ℕ) → Put d at [] at d
-put_nothing d at = record { next = omega arith; wrote = over_nil d at }
+use Rattle.printing.specs.Report.{row_text, rows_text}
+use Rattle.printing.specs.Work.{Put, Grown, Listed}
+use Rattle.printing.specs.declared.Text.{Text}
 
 -- one text behind another
 pub put_then : {d d₁ d₂ : List ℕ} {at n k : ℕ} {b c : List ℕ} → Put d at b n d₁ → Put d₁ n c k d₂ → k ≤ length d → Put d at (b ++ c) k d₂
@@ -40,13 +29,16 @@ put_then {d} {d₁} {d₂} {at} {n} {k} {b} {c} p q room =
 pub put_as : {d d' : List ℕ} {at n : ℕ} {b c : List ℕ} → b ≡ c → Put d at b n d' → Put d at c n d'
 put_as {d} {d'} {at} {n} e p = subst (λ (x : List ℕ). Put d at x n d') e p
 
--- ---- a message's column
+-- the same of a text that grows
+pub grown_then : {t u v : Text} {b c : List ℕ} → Grown t b u → Grown u c v → Grown t (b ++ c) v
+grown_then p q = record { same = q.same ∙ p.same; room = q.room ∙ p.room; fits = omega (arith, q.fits, p.room); put = put_then p.put q.put (omega (arith, q.fits, p.room)) }
 
-pub no_message : (i : ℕ) → i ≡ 65535 → column (code "-" ∷ []) ≡ column (message_text i)
-no_message i e = rw (eq-eqb i 65535 e, message_text) refl
+pub grown_as : {t u : Text} {b c : List ℕ} → b ≡ c → Grown t b u → Grown t c u
+grown_as {t} {u} e p = subst (λ (x : List ℕ). Grown t x u) e p
 
-pub some_message : (i : ℕ) → (i ≡ 65535 → ⊥) → column (decimal i) ≡ column (message_text i)
-some_message i f = rw (ne_eqb i 65535 f, message_text) refl
+-- what it comes to in the lent buffer
+pub grown_out : {t u : Text} {b d' : List ℕ} → Grown t b u → u.output.now ≡ d' → Put t.output.now t.at b u.at d'
+grown_out {t} {u} {b} g e = subst (λ (d' : List ℕ). Put t.output.now t.at b u.at d') e g.put
 
 -- ---- the rows of a log
 
@@ -73,23 +65,20 @@ rows_snoc [] r = append-nil (row_text r)
 rows_snoc (q ∷ rs) r = ap (λ (l : List ℕ). row_text q ++ l) (rows_snoc rs r) ∙ sym (append_assoc (row_text q) (rows_text rs) (row_text r))
 
 -- after i lines
-pub record Lines (d : List ℕ) (at : ℕ) (log : List ℕ) (k i n : ℕ) (d' : List ℕ) : Type 0 where
-  pub inside : i ≤ k
-  pub kept : length d' ≡ length d
-  pub lines : (rs : List Row) → Listed log k rs → Put d at (rows_text (take i rs)) n d'
-  pub short : n ≤ at + 60 * i
+pub record Lines (t : Text) (log : List ℕ) (k i : ℕ) (t' : Text) : Type 0 where
+  pub same : t'.output.ghost_name ≡ t.output.ghost_name
+  pub room : length t'.output.now ≡ length t.output.now
+  pub lines : (rs : List Row) → Listed log k rs → Grown t (rows_text (take i rs)) t'
+  pub short : t'.at ≤ t.at + 60 * i
 
-pub lines_start : (d : List ℕ) (at : ℕ) (log : List ℕ) (k : ℕ) → Lines d at log k 0 at d
-lines_start d at log k = record { inside = omega arith; kept = refl; lines = λ rs is. put_nothing d at; short = omega arith }
-
-pub lines_next : (d : List ℕ) (at : ℕ) (log : List ℕ) (k i n : ℕ) (d₁ : List ℕ) → Lines d at log k i n d₁ → i < k → at + 60 * k ≤ length d
-    → (row : Row) → RowBack (take 16 (drop (16 * i) log)) row → (n' : ℕ) (d₂ : List ℕ) → Put d₁ n (row_text row) n' d₂ → n' ≤ n + 60 → length d₂ ≡ length d₁
-    → Lines d at log k (i + 1) n' d₂
-lines_next d at log k i n d₁ l more room row back n' d₂ p few same =
+pub lines_next : (t u v : Text) (log : List ℕ) (k i : ℕ) → Lines t log k i u → i < k
+    → (row : Row) → RowBack (take 16 (drop (16 * i) log)) row → Grown u (row_text row) v → v.at ≤ u.at + 60
+    → Lines t log k (i + 1) v
+lines_next t u v log k i l more row back g few =
     record {
-      inside = omega arith;
-      kept = same ∙ l.kept;
-      lines = λ rs is. put_as (sym (text_next rs is)) (put_then (l.lines rs is) p (omega (arith, l.short)));
+      same = g.same ∙ l.same;
+      room = g.room ∙ l.room;
+      lines = λ rs is. grown_as (sym (text_next rs is)) (grown_then (l.lines rs is) g);
       short = omega (arith, l.short);
     }
   where
@@ -103,21 +92,3 @@ lines_next d at log k i n d₁ l more room row back n' d₂ p few same =
         ∙ ap rows_text (take-suc rs i blank_row (omega (arith, is.count)))
         ∙ rows_snoc (take i rs) (get_or rs i blank_row)
         ∙ ap (λ (r : Row). rows_text (take i rs) ++ row_text r) (sym (row_is rs is))
-
-pub lines_all : (d : List ℕ) (at : ℕ) (log : List ℕ) (k i n : ℕ) (d' : List ℕ) → Lines d at log k i n d' → k ≤ i → RowsPut d at log k n d'
-lines_all d at log k i n d' l h =
-    record {
-      lines = λ rs is. put_as (ap rows_text (take_all i rs (omega (arith, is.count)))) (l.lines rs is);
-      short = omega (arith, l.short, l.inside);
-    }
-
--- ---- by the outcome
-
-pub report_refused : (d log : List ℕ) (k : Refusal) (n : ℕ) (d' : List ℕ) → Put d 0 (refused_text (number_of k)) n d' × (n ≤ 20) → Reported d log (Refused k) n d'
-report_refused d log k n d' p = record { whole = λ rs is. p.0; short = omega (arith, p.1) }
-
-pub report_done : (d log : List ℕ) (f : Figures) (n : ℕ) (d' : List ℕ) → RunPut d log true f n d' → Reported d log (Done f) n d'
-report_done d log f n d' p = record { whole = p.whole; short = p.short }
-
-pub report_spent : (d log : List ℕ) (f : Figures) (n : ℕ) (d' : List ℕ) → RunPut d log false f n d' → Reported d log (Spent f) n d'
-report_spent d log f n d' p = record { whole = p.whole; short = p.short }

@@ -11,11 +11,9 @@
 --   closing_text r    the last line: how the run ended, events, present slot, sent, late
 --   refused_text n    the one line of a refusal
 --   report_by v r     by the verdict, of the run r
-use Rattle.std.specs.Prelude.{Bool, true, false, List, [], ◌∷◌, ◌++◌, ℕ, eqb}
+use Rattle.std.specs.Prelude.{Bool, true, false, List, [], ◌∷◌, ◌++◌, ℕ, eqb, Ok, Err}
 use Prim.Native.Char.{code}
-use Rattle.refusals.specs.declared.Verdict.{Verdict}
-use Rattle.refusals.specs.declared.Verdict.TheVariants.{Granted, Refused}
-use Rattle.refusals.specs.Numbers.{number_of}
+use Rattle.refusals.specs.Numbers.{Verdict, number_of}
 use Rattle.rows.specs.declared.Phase.{Phase}
 use Rattle.rows.specs.declared.Phase.TheVariants.{Free, Time, Static, Bare}
 use Rattle.rows.specs.declared.Channel.{Channel}
@@ -89,5 +87,5 @@ refused_text n = text "refused " ++ ending (decimal n)
 
 -- by the verdict
 abbrev pub report_by : Verdict → List Row × World → List ℕ
-report_by Granted r = header ++ rows_text r.0 ++ closing_text (closing r)
-report_by (Refused k) r = refused_text (number_of k)
+report_by (Ok _) r = header ++ rows_text r.0 ++ closing_text (closing r)
+report_by (Err k) r = refused_text (number_of k)

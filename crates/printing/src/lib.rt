@@ -8,44 +8,12 @@ ghost use Rattle.refusals.specs.Numbers.{number_of};
 ghost use Rattle.wire.specs.Answer.{ended, reading_of};
 ghost use Rattle.numbers.specs.Decimal.{decimal};
 ghost use Rattle.printing.specs.Report.{column, phase_letter, state_letter, message_text, row_text};
-ghost use Rattle.printing.specs.Report.{end_text, figures_text, refused_text};
-ghost use Rattle.printing.specs.Work.{Put, RowsPut, TablePut, RunPut, ReportReady, Reported};
+ghost use Rattle.printing.specs.Report.{figures_text, refused_text};
+ghost use Rattle.printing.specs.Work.{Put, Grown, RowsPut, TablePut, RunPut, ReportReady, Reported};
 
 use refusals::Refusal;
 use rows::{Channel, Phase, Row};
 use wire::{Figures, Outcome};
-
-const SPACE: u8 = 32;
-
-const LINE_FEED: u8 = 10;
-
-// Some bytes, and the place behind them.
-fn put_text(output: &mut [u8], at: usize, bytes: &[u8]) -> usize
-    requires { at + length bytes.now ≤ length output.old }
-    ensures { Put output.old at bytes.now result output.new }
-{
-    rows::put_bytes(output, at, bytes);
-    at + bytes.len()
-}
-
-// A letter and the space behind it.
-fn put_letter(output: &mut [u8], at: usize, letter: u8) -> usize
-    requires { at + 2 ≤ length output.old }
-    ensures { Put output.old at (column (letter ∷ [])) result output.new }
-{
-    let both = [letter, SPACE];
-    put_text(output, at, &both)
-}
-
-// A number and the mark behind it, a space or a line feed: at most 11 bytes.
-fn put_number(output: &mut [u8], at: usize, n: u32, mark: u8) -> usize
-    requires { at + 11 ≤ length output.old }
-    ensures { Put output.old at (decimal n ++ (mark ∷ [])) result output.new × (result ≤ at + 11) }
-{
-    let next = numbers::put_number(&mut *output, at, n);
-    let behind = [mark];
-    put_text(output, next, &behind)
-}
 
 fn phase_letter(phase: Phase) -> u8
     ensures { result ≡ phase_letter phase }
@@ -68,69 +36,90 @@ fn state_letter(state: Channel) -> u8
     }
 }
 
-// A message's number or `-`, and a space.
-fn put_message(output: &mut [u8], at: usize, message: u16) -> usize
-    requires { at + 11 ≤ length output.old }
-    ensures { Put output.old at (column (message_text message)) result output.new
-        × (result ≤ at + 11) }
-{
-    if message == rows::NO_MESSAGE {
-        return put_letter(output, at, b'-');
+// A text in the making: it ends at place `at` of the lent buffer.
+#[derive(Drop)]
+struct Text<'a> {
+    output: &'a mut [u8],
+    at: usize,
+}
+
+impl Text<'_> {
+    fn put(&mut self, bytes: &[u8])
+        requires { self.old.at + length bytes.now ≤ length self.old.output.now }
+        ensures grown { Grown self.old bytes.now self.new }
+    {
+        rows::put_bytes(self.output, self.at, bytes);
+        self.at += bytes.len();
     }
-    put_number(output, at, message as u32, SPACE)
-}
 
-// A row as a line: at most 60 bytes.
-fn put_row(output: &mut [u8], at: usize, row: Row) -> usize
-    requires { at + 60 ≤ length output.old }
-    ensures { Put output.old at (row_text row) result output.new × (result ≤ at + 60) }
-{
-    let phase = row.phase;
-    let state = row.state;
-    let a = put_number(&mut *output, at, row.slot, SPACE);
-    let b = put_letter(&mut *output, a, phase_letter(phase));
-    let c = put_number(&mut *output, b, row.first as u32, SPACE);
-    let d = put_number(&mut *output, c, row.width as u32, SPACE);
-    let e = put_letter(&mut *output, d, state_letter(state));
-    let f = put_message(&mut *output, e, row.message);
-    put_number(&mut *output, f, row.used as u32, LINE_FEED)
-}
-
-// A line for each row of the log.
-fn put_rows(output: &mut [u8], at: usize, log: &[u8], rows: usize) -> usize
-    requires { (at + 60 * rows ≤ length output.old) × (16 * rows ≤ length log.now) }
-    ensures { RowsPut output.old at log.now rows result output.new }
-{
-    let mut next = at;
-    let mut row: usize = 0;
-    while row < rows {
-        next = put_row(&mut *output, next, readback::row_at(log, row));
-        row += 1;
+    // A letter and the space behind it.
+    fn put_letter(&mut self, letter: u8)
+        requires { self.old.at + 2 ≤ length self.old.output.now }
+        ensures grown { Grown self.old (column (letter ∷ [])) self.new }
+    {
+        self.put(&[letter, b' ']);
     }
-    next
-}
 
-// The closing figures: at most 44 bytes.
-fn put_figures(output: &mut [u8], at: usize, figures: Figures) -> usize
-    requires { at + 44 ≤ length output.old }
-    ensures { Put output.old at (figures_text (ended true figures)) result output.new
-        × (result ≤ at + 44) }
-{
-    let a = put_number(&mut *output, at, figures.events, SPACE);
-    let b = put_number(&mut *output, a, figures.slot, SPACE);
-    let c = put_number(&mut *output, b, figures.sent, SPACE);
-    put_number(&mut *output, c, figures.late, LINE_FEED)
-}
-
-// The word that says how a run ended.
-fn put_end(output: &mut [u8], at: usize, done: bool) -> usize
-    requires { at + 7 ≤ length output.old }
-    ensures { Put output.old at (end_text done) result output.new × (result ≤ at + 7) }
-{
-    if done {
-        return put_text(output, at, b"done ");
+    // A number and the mark behind it, a space or a line feed: at most 11 bytes.
+    #[tactic(auto, using(numbers::proofs::WriteLaws::digits_ten, crate::proofs::PutLaws::grown_then))]
+    fn put_number(&mut self, n: u32, mark: u8)
+        requires { self.old.at + 11 ≤ length self.old.output.now }
+        ensures grown { Grown self.old (decimal n ++ (mark ∷ [])) self.new }
+        ensures short { self.new.at ≤ self.old.at + 11 }
+    {
+        self.at = numbers::put_number(self.output, self.at, n);
+        self.put(&[mark]);
     }
-    put_text(output, at, b"budget ")
+
+    // A message's number or `-`, and a space.
+    fn put_message(&mut self, message: u16)
+        requires { self.old.at + 11 ≤ length self.old.output.now }
+        ensures grown { Grown self.old (column (message_text message)) self.new }
+        ensures short { self.new.at ≤ self.old.at + 11 }
+    {
+        if message == rows::NO_MESSAGE {
+            self.put_letter(b'-');
+        } else {
+            self.put_number(u32::from(message), b' ');
+        }
+    }
+
+    // A row as a line: at most 60 bytes.
+    fn put_row(&mut self, row: Row)
+        requires { self.old.at + 60 ≤ length self.old.output.now }
+        ensures grown { Grown self.old (row_text row) self.new }
+        ensures short { self.new.at ≤ self.old.at + 60 }
+    {
+        self.put_number(row.slot, b' ');
+        self.put_letter(phase_letter(row.phase));
+        self.put_number(u32::from(row.first), b' ');
+        self.put_number(u32::from(row.width), b' ');
+        self.put_letter(state_letter(row.state));
+        self.put_message(row.message);
+        self.put_number(u32::from(row.used), b'\n');
+    }
+
+    // A line for each row of the log.
+    fn put_rows(&mut self, log: &[u8], rows: usize)
+        requires { (self.old.at + 60 * rows ≤ length self.old.output.now) × (16 * rows ≤ length log.now) }
+        ensures lines { RowsPut self.old log.now rows self.new }
+    {
+        for row in 0..rows {
+            self.put_row(readback::row_at(log, row));
+        }
+    }
+
+    // The closing figures: at most 44 bytes.
+    fn put_figures(&mut self, figures: Figures)
+        requires { self.old.at + 44 ≤ length self.old.output.now }
+        ensures grown { Grown self.old (figures_text (ended true figures)) self.new }
+        ensures short { self.new.at ≤ self.old.at + 44 }
+    {
+        self.put_number(figures.events, b' ');
+        self.put_number(figures.slot, b' ');
+        self.put_number(figures.sent, b' ');
+        self.put_number(figures.late, b'\n');
+    }
 }
 
 // The table of a log: the names of the columns, and a line for each of its first rows.
@@ -138,23 +127,23 @@ pub fn put_table(output: &mut [u8], log: &[u8], rows: usize) -> usize
     requires { (44 + 60 * rows ≤ length output.old) × (16 * rows ≤ length log.now) }
     ensures { TablePut output.old log.now rows result output.new }
 {
-    let at = put_text(
-        &mut *output,
-        0,
-        b"slot phase first width state message length\n",
-    );
-    put_rows(&mut *output, at, log, rows)
+    let mut text = Text { output, at: 0 };
+    text.put(b"slot phase first width state message length\n");
+    text.put_rows(log, rows);
+    text.at
 }
 
-// A run that was not refused: the table of its log and the closing line.
-fn put_run(output: &mut [u8], log: &[u8], done: bool, figures: Figures) -> usize
-    requires { (100 + 60 * figures.events ≤ length output.old) × (16 * figures.events ≤ length log.now) }
-    ensures { RunPut output.old log.now done figures result output.new }
+// A run that was not refused: the table of its log, and the closing line, which begins with the word for its end.
+fn put_run(output: &mut [u8], log: &[u8], end: &[u8], figures: Figures) -> usize
+    requires room { (100 + 60 * figures.events ≤ length output.old) × (16 * figures.events ≤ length log.now) }
+    requires word { length end.now ≤ 7 }
+    ensures { RunPut output.old log.now end.now figures result output.new }
 {
-    let events = figures.events as usize;
-    let a = put_table(&mut *output, log, events);
-    let b = put_end(&mut *output, a, done);
-    put_figures(&mut *output, b, figures)
+    let at = put_table(output, log, figures.events as usize);
+    let mut text = Text { output, at };
+    text.put(end);
+    text.put_figures(figures);
+    text.at
 }
 
 // A refusal: one line.
@@ -162,18 +151,20 @@ pub fn put_refusal(output: &mut [u8], refusal: Refusal) -> usize
     requires { 100 ≤ length output.old }
     ensures { Put output.old 0 (refused_text (number_of refusal)) result output.new × (result ≤ 20) }
 {
-    let a = put_text(&mut *output, 0, b"refused ");
-    put_number(&mut *output, a, refusals::number(refusal), LINE_FEED)
+    let mut text = Text { output, at: 0 };
+    text.put(b"refused ");
+    text.put_number(refusals::number(refusal), b'\n');
+    text.at
 }
 
-// The whole text that an outcome and its log make.
-pub fn put_report(output: &mut [u8], log: &[u8], outcome: Outcome) -> usize
+// The whole text that a run's answer and its log make.
+pub fn put_report(output: &mut [u8], log: &[u8], outcome: Result<Outcome, Refusal>) -> usize
     requires { ReportReady output.old log.now (reading_of outcome).events }
     ensures { Reported output.old log.now outcome result output.new }
 {
     match outcome {
-        Outcome::Refused(refusal) => put_refusal(output, refusal),
-        Outcome::Done(figures) => put_run(output, log, true, figures),
-        Outcome::Spent(figures) => put_run(output, log, false, figures),
+        Ok(Outcome::Done(figures)) => put_run(output, log, b"done ", figures),
+        Ok(Outcome::Spent(figures)) => put_run(output, log, b"budget ", figures),
+        Err(refusal) => put_refusal(output, refusal),
     }
 }

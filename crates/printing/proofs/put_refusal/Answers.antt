@@ -1,16 +1,14 @@
 -- The word and the number.
-use mathlib.Core.Path.{ap}
-use Prim.Native.Nat.{ℕ}
+use mathlib.Core.Path.{refl}
 use native.Mathlib.Omega.{arith}
-use Rattle.numbers.specs.Decimal.{decimal}
-use Rattle.printing.specs.Report.{ending}
-use Rattle.printing.proofs.PutLaws.{put_then, put_as}
+use Rattle.std.proofs.Common.{rules}
+use Rattle.printing.proofs.PutLaws.{grown_then, grown_as, grown_out}
 use Rattle.printing.proofs.put_refusal.Goals as goal
 
 pub returns : goal.returns
 returns c =
-    let word = c.put_text-a.ensures in
+    let word = c.put.ensures.grown in
     let number = c.put_number.ensures in (
-      put_then word (put_as (ap (λ (n : ℕ). ending (decimal n)) c.number.ensures) number.0) (omega (arith, word.next, number.1, c.requires)),
-      omega (arith, word.next, number.1),
+      grown_out (grown_as (rw c.number.ensures refl) (grown_then word number.grown)) (search rules),
+      omega (arith, word.put.next, number.short),
     )

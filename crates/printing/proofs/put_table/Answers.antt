@@ -1,14 +1,14 @@
 -- The header, then the rows.
 use native.Mathlib.Omega.{arith}
-use Rattle.printing.proofs.PutLaws.{put_then}
+use Rattle.std.proofs.Common.{rules}
+use Rattle.printing.proofs.PutLaws.{grown_then, grown_out}
 use Rattle.printing.proofs.put_table.Goals as goal
 
 pub returns : goal.returns
 returns c =
-    let names = c.put_text-at.ensures in
-    let rows = c.put_rows.ensures in
-    let room = c.requires.0 in
+    let names = c.put.ensures.grown in
+    let rows = c.put_rows.ensures.lines in
     record {
-      table = λ rs is. put_then names (rows.lines rs is) (omega (arith, names.next, rows.short, room));
-      short = omega (arith, names.next, rows.short);
+      table = λ rs is. grown_out (grown_then names (rows.lines rs is)) (search rules);
+      short = omega (arith, names.put.next, rows.short);
     }
