@@ -2,29 +2,26 @@
 use mathlib.Core.Path.{◌≡◌, refl, sym, ap, ◌∙◌, subst}
 use mathlib.Core.List.{List, [], ◌∷◌, ◌++◌}
 use Prim.Native.Nat.{ℕ, zero, suc, ◌+◌, ◌*◌, ◌^◌, ◌/◌, ◌≤◌, ◌<◌}
-use native.Mathlib.Nat.{le_refl, add-zero, suc-mul, pow-zero, mul-le-mul_right}
+use native.Mathlib.Nat.{le_refl, suc-mul, pow-zero, mul-le-mul_right}
 use native.Mathlib.Numerals.{add-one}
 use native.Mathlib.Omega.{arith}
 use lib.ListN.{length, length-append}
 use Rattle.rows.specs.declared.Row.{Row}
 use Rattle.rows.specs.declared.Channel.{Channel}
 use Rattle.rows.specs.declared.Channel.TheVariants.{Silence, Busy, Collision}
-use Rattle.rows.proofs.LogLaws.{log_none, log_then}
+use Rattle.rows.proofs.LogLaws.{log_then}
 use Rattle.trees.specs.Shape.{nodes}
 use Rattle.trees.specs.Search.{children, visit, active_in, bare_row, bare_look, bare_rule, total, silent, colliding}
 use Rattle.trees.proofs.Powers.{pow_inj, Below, below, child_inside}
 use Rattle.trees.proofs.LeafLaws.{part, part_length, length_active, ones_le}
 use Rattle.trees.proofs.SearchLaws.{total_append, told, AllTold, all_told, children_more, noded}
 use Rattle.searches.specs.declared.Seen.TheVariants.{Nobody, One, Several}
-use Rattle.searches.specs.declared.Tally.{Tally}
+use Rattle.searches.specs.declared.Searched.{Searched}
 use Rattle.searches.specs.Work.{seen_of, Wrote, VisitReady, Visited}
 
 -- ---- rows written behind rows
 
-pub wrote_none : (t : Tally) (log : List ℕ) → Wrote t log [] t log
-wrote_none t log = record { written = log_none log (16 * t.rows); counted = sym (add-zero t.rows); silent = sym (add-zero t.silences); collided = sym (add-zero t.collisions) }
-
-pub wrote_then : (t r q : Tally) (log log₁ log₂ : List ℕ) (xs ys : List Row) → 16 * (t.rows + length xs + length ys) ≤ length log
+pub wrote_then : (t r q : Searched) (log log₁ log₂ : List ℕ) (xs ys : List Row) → 16 * (t.rows + length xs + length ys) ≤ length log
     → Wrote t log xs r log₁ → Wrote r log₁ ys q log₂ → Wrote t log (xs ++ ys) q log₂
 wrote_then t r q log log₁ log₂ xs ys room p s = record {
   written = log_then log log₁ log₂ t.rows r.rows xs ys p.counted (omega (arith, p.counted)) p.written s.written;
@@ -48,7 +45,7 @@ colliding_once Busy = omega arith
 colliding_once Collision = omega arith
 
 -- no figure of a tally exceeds its rows
-pub tally_few : (t r : Tally) (log log' : List ℕ) (rows : List Row) → t.silences ≤ t.rows → t.collisions ≤ t.rows → Wrote t log rows r log'
+pub tally_few : (t r : Searched) (log log' : List ℕ) (rows : List Row) → t.silences ≤ t.rows → t.collisions ≤ t.rows → Wrote t log rows r log'
     → (r.silences ≤ r.rows) × (r.collisions ≤ r.rows)
 tally_few t r log log' rows h g w =
     (omega (arith, w.counted, w.silent, total_few silent silent_once rows), omega (arith, w.counted, w.collided, total_few colliding colliding_once rows))
@@ -57,17 +54,17 @@ tally_few t r log log' rows h g w =
 
 pub heard_none : (l : List ℕ) → Nobody ≡ seen_of l → l ≡ []
 heard_none [] e = refl
-heard_none (p ∷ []) e = let z : ◌≡◌ {A = ℕ} 0 1 = cc in absurd (omega arith)
-heard_none (p ∷ q ∷ l) e = let z : ◌≡◌ {A = ℕ} 0 1 = cc in absurd (omega arith)
+heard_none (p ∷ []) e = cc
+heard_none (p ∷ q ∷ l) e = cc
 
 pub heard_leaf : (p : ℕ) (l : List ℕ) → One p ≡ seen_of l → l ≡ p ∷ []
-heard_leaf p [] e = let z : ◌≡◌ {A = ℕ} 0 1 = cc in absurd (omega arith)
-heard_leaf p (q ∷ []) e = let same : p ≡ q = cc in ap (λ (x : ℕ). x ∷ []) (sym same)
-heard_leaf p (q ∷ x ∷ l) e = let z : ◌≡◌ {A = ℕ} 0 1 = cc in absurd (omega arith)
+heard_leaf p [] e = cc
+heard_leaf p (q ∷ []) e = cc
+heard_leaf p (q ∷ x ∷ l) e = cc
 
 pub heard_two : (l : List ℕ) → Several ≡ seen_of l → 2 ≤ length l
-heard_two [] e = let z : ◌≡◌ {A = ℕ} 0 1 = cc in absurd (omega arith)
-heard_two (p ∷ []) e = let z : ◌≡◌ {A = ℕ} 0 1 = cc in absurd (omega arith)
+heard_two [] e = cc
+heard_two (p ∷ []) e = cc
 heard_two (p ∷ q ∷ l) e = omega arith
 
 node_several : (leaves : List ℕ) (m h a slot : ℕ) (l : List ℕ) → 2 ≤ length l
@@ -97,14 +94,11 @@ rows_quiet leaves m (suc n) a w slot l e f h = go l f h
 -- ---- a visit that collided
 
 -- the first j children, of width v, were written
-abbrev pub Kept : List ℕ → ℕ → ℕ → ℕ → Tally → List ℕ → ℕ → Tally → List ℕ → Type 0
+abbrev pub Kept : List ℕ → ℕ → ℕ → ℕ → Searched → List ℕ → ℕ → Searched → List ℕ → Type 0
 Kept leaves m a v r₀ log₀ j r log₁ =
-    (j ≤ m) × (length log₁ ≡ length log₀) × ((n : ℕ) → v ≡ m ^ n → Wrote r₀ log₀ (children (visit (bare_rule leaves) m n) (m ^ n) j a r₀.rows).0 r log₁)
+    (n : ℕ) → v ≡ m ^ n → Wrote r₀ log₀ (children (visit (bare_rule leaves) m n) (m ^ n) j a r₀.rows).0 r log₁
 
-pub kept_first : (leaves : List ℕ) (m a v : ℕ) (r₀ : Tally) (log₀ : List ℕ) → Kept leaves m a v r₀ log₀ 0 r₀ log₀
-kept_first leaves m a v r₀ log₀ = (omega arith, refl, λ n e. wrote_none r₀ log₀)
-
-module _ (leaves log : List ℕ) (m a w : ℕ) (t : Tally) (pre : VisitReady leaves log m a w t) (hit : Several ≡ seen_of (active_in leaves a w)) where
+module _ (leaves log : List ℕ) (m a w : ℕ) (t : Searched) (pre : VisitReady leaves log m a w t) (hit : Several ≡ seen_of (active_in leaves a w)) where
   pub wide : 2 ≤ w
   wide = omega (arith, heard_two (active_in leaves a w) hit, length_active a (part leaves a w), ones_le (part leaves a w), part_length leaves a w pre.inside)
 
@@ -133,16 +127,16 @@ module _ (leaves log : List ℕ) (m a w : ℕ) (t : Tally) (pre : VisitReady lea
       let f : nodes m pre.height ≡ suc (m * nodes m n) = ap (nodes m) (under.height ∙ ap suc (sym (same_height n e))) in
       omega (arith, mul-le-mul_right {m = j} {n = m} (nodes m n) h)
 
-  module _ (r₀ : Tally) (log₀ : List ℕ) (same : length log₀ ≡ length log) (head : Wrote t log (bare_row t.rows Collision a w 65535 ∷ []) r₀ log₀) where
-    abbrev Now : ℕ → Tally → List ℕ → Type 0
+  module _ (r₀ : Searched) (log₀ : List ℕ) (same : length log₀ ≡ length log) (head : Wrote t log (bare_row t.rows Collision a w 65535 ∷ []) r₀ log₀) where
+    abbrev Now : ℕ → Searched → List ℕ → Type 0
     Now = Kept leaves m a (w / m) r₀ log₀
 
-    pub next_ready : (j : ℕ) (r : Tally) (log₁ : List ℕ) → j < m → Now j r log₁ → VisitReady leaves log₁ m (a + j * (w / m)) (w / m) r
-    next_ready j r log₁ h kept =
+    pub next_ready : (j : ℕ) (r : Searched) (log₁ : List ℕ) → j < m → length log₁ ≡ length log₀ → Now j r log₁ → VisitReady leaves log₁ m (a + j * (w / m)) (w / m) r
+    next_ready j r log₁ h len kept =
         let n : ℕ = under.under in
         let e : w / m ≡ m ^ n = under.width in
-        let so = kept.2 n e in
-        let c = (kids_told n j r₀.rows kept.0 e).count in
+        let so = kept n e in
+        let c = (kids_told n j r₀.rows (omega arith) e).count in
         let room = kid_room n (suc j) h e in
         let few = tally_few t r₀ log log₀ (bare_row t.rows Collision a w 65535 ∷ []) pre.silent pre.collided head in
         let few' = tally_few r₀ r log₀ log₁ (Kids n j r₀.rows).0 few.0 few.1 so in
@@ -152,40 +146,35 @@ module _ (leaves log : List ℕ) (m a w : ℕ) (t : Tally) (pre : VisitReady lea
           branches = pre.branches;
           inside = omega (arith, child j h, pre.inside);
           few = pre.few;
-          room = omega (arith, pre.room, so.counted, head.counted, suc-mul j (nodes m n), kept.1);
+          room = omega (arith, pre.room, so.counted, head.counted, suc-mul j (nodes m n));
           slots = omega (arith, pre.slots, so.counted, head.counted, suc-mul j (nodes m n));
           silent = few'.0;
           collided = few'.1;
         }
 
-    pub kept_next : (j : ℕ) (r q : Tally) (log₁ log₂ : List ℕ) → j < m → length log₂ ≡ length log₁ → Now j r log₁
+    pub kept_next : (j : ℕ) (r q : Searched) (log₁ log₂ : List ℕ) → j < m → Now j r log₁
         → Visited leaves m (a + j * (w / m)) (w / m) r log₁ q log₂ → Now (j + 1) q log₂
-    kept_next j r q log₁ log₂ h len kept v = (
-      omega arith,
-      len ∙ kept.1,
-      λ n e.
-          let so = kept.2 n e in
-          let kids = kids_told n j r₀.rows kept.0 e in
-          let all = kids_told n (suc j) r₀.rows h e in
-          let slot : (Kids n j r₀.rows).1 ≡ r.rows = kids.after ∙ sym so.counted in
-          let place : a + j * (w / m) ≡ a + j * m ^ n = ap (λ (x : ℕ). a + j * x) e in
-          let one : Wrote r log₁ (visit (bare_rule leaves) m n (a + j * m ^ n) (Kids n j r₀.rows).1).0 q log₂ =
-          rw (slot, ← place) (v n e) in
-          let more : (Kids n (suc j) r₀.rows).0 ≡ (Kids n j r₀.rows).0 ++ (visit (bare_rule leaves) m n (a + j * m ^ n) (Kids n j r₀.rows).1).0 =
-          ap (λ (x : List Row × ℕ). x.0) (children_more (visit (bare_rule leaves) m n) (m ^ n) j a r₀.rows) in
-          let size = length-append (Kids n j r₀.rows).0 (visit (bare_rule leaves) m n (a + j * m ^ n) (Kids n j r₀.rows).1).0 in
-          rw (add-one j, more)
-          (wrote_then r₀ r q log₀ log₁ log₂ (Kids n j r₀.rows).0 (visit (bare_rule leaves) m n (a + j * m ^ n) (Kids n j r₀.rows).1).0
-          (omega (arith, pre.room, head.counted, same, all.count, ap length more, kid_room n (suc j) h e))
-          so one),
-    )
+    kept_next j r q log₁ log₂ h kept v = λ n e.
+        let so = kept n e in
+        let kids = kids_told n j r₀.rows (omega arith) e in
+        let all = kids_told n (suc j) r₀.rows h e in
+        let slot : (Kids n j r₀.rows).1 ≡ r.rows = kids.after ∙ sym so.counted in
+        let place : a + j * (w / m) ≡ a + j * m ^ n = ap (λ (x : ℕ). a + j * x) e in
+        let one : Wrote r log₁ (visit (bare_rule leaves) m n (a + j * m ^ n) (Kids n j r₀.rows).1).0 q log₂ =
+        rw (slot, ← place) (v n e) in
+        let more : (Kids n (suc j) r₀.rows).0 ≡ (Kids n j r₀.rows).0 ++ (visit (bare_rule leaves) m n (a + j * m ^ n) (Kids n j r₀.rows).1).0 =
+        ap (λ (x : List Row × ℕ). x.0) (children_more (visit (bare_rule leaves) m n) (m ^ n) j a r₀.rows) in
+        let size = length-append (Kids n j r₀.rows).0 (visit (bare_rule leaves) m n (a + j * m ^ n) (Kids n j r₀.rows).1).0 in
+        rw (add-one j, more)
+        (wrote_then r₀ r q log₀ log₁ log₂ (Kids n j r₀.rows).0 (visit (bare_rule leaves) m n (a + j * m ^ n) (Kids n j r₀.rows).1).0
+        (omega (arith, pre.room, head.counted, same, all.count, ap length more, kid_room n (suc j) h e))
+        so one)
 
-    pub kept_all : (j : ℕ) (r : Tally) (log₁ : List ℕ) → m ≤ j → Now j r log₁ → Visited leaves m a w t log r log₁
-    kept_all j r log₁ done kept n e =
+    pub kept_all : (j : ℕ) (r : Searched) (log₁ : List ℕ) → j ≡ m → Now j r log₁ → Visited leaves m a w t log r log₁
+    kept_all j r log₁ all kept n e =
         let B : Below m n w = below m n w pre.branches wide e in
         let k : ℕ = B.under in
-        let all : j ≡ m = omega (arith, kept.0) in
-        let so : Wrote r₀ log₀ (Kids k m r₀.rows).0 r log₁ = rw all at (kept.2 k B.width) in
+        let so : Wrote r₀ log₀ (Kids k m r₀.rows).0 r log₁ = rw all at (kept k B.width) in
         let first : r₀.rows ≡ t.rows + 1 = head.counted in
         let so' : Wrote r₀ log₀ (Kids k m (t.rows + 1)).0 r log₁ = subst (λ (x : ℕ). Wrote r₀ log₀ (Kids k m x).0 r log₁) first so in
         let rows : (visit (bare_rule leaves) m (suc k) a t.rows).0 ≡ bare_row t.rows Collision a w 65535 ∷ (Kids k m (t.rows + 1)).0 =

@@ -4,25 +4,29 @@
 // Uses refusals, rows and trees.
 #![tactic(auto)]
 
-ghost use Rattle.std.specs.Prelude.{◌≡◌, ◌+◌, ◌≤◌, length, [], ◌∷◌};
+ghost use Rattle.std.specs.Prelude.{◌≡◌, ◌+◌, ◌≤◌, length, [], ◌∷◌, position};
 ghost use Rattle.trees.specs.Shape.{Tree, rows_room};
-ghost use Rattle.trees.specs.Search.{all_bits, active_in, bare_row, silent, colliding};
+ghost use Rattle.trees.specs.Search.{all_bits, active_in, bare_row};
 ghost use Rattle.searches.specs.Answer.{search_verdict};
 ghost use Rattle.searches.specs.Promise.{SearchPromise};
-ghost use Rattle.searches.specs.Work.{seen_of, NoteReady, Wrote, VisitReady, Visited};
+ghost use Rattle.searches.specs.Work.{is_active, seen_of, NoteReady, Wrote, VisitReady, Visited};
 
 use refusals::{Refusal, Verdict};
-use rows::{Channel, Phase, Row};
+use rows::{Channel, NO_MESSAGE, Phase, Row};
 
-// What a bare search answers.
+// What a bare search has written: its rows, and how many of their slots were silent and how many collided.
+#[derive(Clone, Copy, Debug, PartialEq, Eq)]
+pub struct Searched {
+    pub rows: u32,
+    pub silences: u32,
+    pub collisions: u32,
+}
+
+// A subtree: its first leaf, and how many leaves it has.
 #[derive(Clone, Copy)]
-pub enum Found {
-    Searched {
-        rows: u32,
-        silences: u32,
-        collisions: u32,
-    },
-    Refused(Refusal),
+struct Subtree {
+    first: usize,
+    width: usize,
 }
 
 // How many active leaves a subtree has, as far as the wire can tell: the one leaf is heard.
@@ -33,26 +37,11 @@ enum Seen {
     Several,
 }
 
-// What has been written so far.
-#[derive(Clone, Copy)]
-struct Tally {
-    rows: u32,
-    silences: u32,
-    collisions: u32,
-}
-
 // Whether each byte is 0 or 1.
 fn are_bits(leaves: &[u8]) -> bool
     ensures { result ≡ all_bits leaves.now }
 {
-    let mut i = 0;
-    while i < leaves.len() {
-        if 1 < leaves[i] {
-            return false;
-        }
-        i += 1;
-    }
-    true
+    leaves.iter().all(|leaf| *leaf <= 1)
 }
 
 // The bytes of a log with a row for each node of the tree.
@@ -68,129 +57,108 @@ fn rows_room(m: u32, t: u32) -> usize
 fn search_verdict(m: u32, t: u32, leaves: &[u8], room: usize) -> Verdict
     ensures { result ≡ search_verdict m t leaves.now room }
 {
-    let tree = trees::tree_verdict(m, t);
-    if let Verdict::Refused(refusal) = tree {
-        return Verdict::Refused(refusal);
-    }
+    trees::tree_verdict(m, t)?;
     if leaves.len() != t as usize {
-        return Verdict::Refused(Refusal::LeafList);
+        return Err(Refusal::LeafList);
     }
     if !are_bits(leaves) {
-        return Verdict::Refused(Refusal::LeafByte);
+        return Err(Refusal::LeafByte);
     }
     if room < rows_room(m, t) {
-        return Verdict::Refused(Refusal::LogRoom);
+        return Err(Refusal::LogRoom);
     }
-    Verdict::Granted
+    Ok(())
 }
 
-// The subtree of w leaves from leaf a on, as its stations make it sound.
-fn look(leaves: &[u8], a: usize, w: usize) -> Seen
-    requires { (a + w ≤ length leaves.now) × (length leaves.now ≤ 1024) }
-    ensures { result ≡ seen_of (active_in leaves.now a w) }
+// The place of the first active leaf.
+fn first_active(leaves: &[u8]) -> Option<usize>
+    ensures { result ≡ position is_active leaves.now }
 {
-    let mut count: usize = 0;
-    let mut last: usize = 0;
-    let mut i: usize = 0;
-    while i < w {
-        if leaves[a + i] != 0 {
-            count += 1;
-            last = a + i;
+    leaves.iter().position(|leaf| *leaf != 0)
+}
+
+impl Subtree {
+    // The subtree as its stations make it sound.
+    #[tactic(auto, using(crate::proofs::LookLaws::heard_nobody, crate::proofs::LookLaws::heard_one, crate::proofs::LookLaws::heard_several))]
+    fn look(self, leaves: &[u8]) -> Seen
+        requires { (self.first + self.width ≤ length leaves.now) × (length leaves.now ≤ 1024) }
+        ensures { result ≡ seen_of (active_in leaves.now self.first self.width) }
+    {
+        let part = &leaves[self.first..self.first + self.width];
+        let Some(at) = first_active(part) else {
+            return Seen::Nobody;
+        };
+        match first_active(&part[at + 1..]) {
+            None => Seen::One((self.first + at) as u16),
+            Some(_) => Seen::Several,
         }
-        i += 1;
-    }
-    match count {
-        0 => Seen::Nobody,
-        1 => Seen::One(last as u16),
-        _ => Seen::Several,
     }
 }
 
-fn silent_slots(state: Channel) -> u32
-    ensures { (result ≡ silent state) × (result ≤ 1) }
-{
-    match state {
-        Channel::Silence => 1,
-        Channel::Busy => 0,
-        Channel::Collision => 0,
-    }
-}
-
-fn colliding_slots(state: Channel) -> u32
-    ensures { (result ≡ colliding state) × (result ≤ 1) }
-{
-    match state {
-        Channel::Silence => 0,
-        Channel::Busy => 0,
-        Channel::Collision => 1,
-    }
-}
-
-// One slot: its row is written behind the others, and counted.
-fn note(log: &mut [u8], t: Tally, state: Channel, a: usize, w: usize, message: u16) -> Tally
-    requires { NoteReady log.old t a w }
-    ensures { Wrote t log.old (bare_row t.rows state a w message ∷ []) result log.new }
-{
-    let at = t.rows;
-    let row = Row {
-        slot: at,
-        phase: Phase::Bare,
-        state: state,
-        first: a as u16,
-        width: w as u16,
-        message: message,
-        used: 1,
+impl Searched {
+    // Nothing written yet.
+    const START: Searched = Searched {
+        rows: 0,
+        silences: 0,
+        collisions: 0,
     };
-    rows::put_row(log, at as usize, row);
-    Tally {
-        rows: at + 1,
-        silences: t.silences + silent_slots(state),
-        collisions: t.collisions + colliding_slots(state),
+
+    // One slot: its row is written behind the others, and counted.
+    fn note(self, log: &mut [u8], state: Channel, subtree: Subtree, message: u16) -> Searched
+        requires { NoteReady log.old self subtree.first subtree.width }
+        ensures { Wrote self log.old (bare_row self.rows state subtree.first subtree.width message ∷ []) result log.new }
+    {
+        let row = Row {
+            slot: self.rows,
+            phase: Phase::Bare,
+            state,
+            first: subtree.first as u16,
+            width: subtree.width as u16,
+            message,
+            used: 1,
+        };
+        rows::put_row(log, self.rows as usize, row);
+        Searched {
+            rows: self.rows + 1,
+            silences: self.silences + u32::from(state == Channel::Silence),
+            collisions: self.collisions + u32::from(state == Channel::Collision),
+        }
     }
 }
 
-// The subtree of w leaves from leaf a on, its rows written behind those of the tally; the width falls with each call.
-fn visit(leaves: &[u8], log: &mut [u8], m: usize, a: usize, w: usize, t: Tally) -> Tally
-    requires { VisitReady leaves.now log.old m a w t }
-    ensures { Visited leaves.now m a w t log.old result log.new }
+// The search of a subtree, its rows written behind those that were; the width falls with each call.
+fn visit(leaves: &[u8], log: &mut [u8], m: usize, subtree: Subtree, before: Searched) -> Searched
+    requires { VisitReady leaves.now log.old m subtree.first subtree.width before }
+    ensures { Visited leaves.now m subtree.first subtree.width before log.old result log.new }
 {
-    let seen = look(leaves, a, w);
-    match seen {
-        Seen::Nobody => note(log, t, Channel::Silence, a, w, rows::NO_MESSAGE),
-        Seen::One(leaf) => note(log, t, Channel::Busy, a, w, leaf),
+    match subtree.look(leaves) {
+        Seen::Nobody => before.note(log, Channel::Silence, subtree, NO_MESSAGE),
+        Seen::One(leaf) => before.note(log, Channel::Busy, subtree, leaf),
         Seen::Several => {
-            let mut r = note(log, t, Channel::Collision, a, w, rows::NO_MESSAGE);
-            let v = w / m;
-            let mut j = 0;
-            while j < m {
-                r = visit(leaves, log, m, a + j * v, v, r);
-                j += 1;
+            let mut searched = before.note(log, Channel::Collision, subtree, NO_MESSAGE);
+            let width = subtree.width / m;
+            for j in 0..m {
+                let child = Subtree {
+                    first: subtree.first + j * width,
+                    width,
+                };
+                searched = visit(leaves, log, m, child, searched);
             }
-            r
+            searched
         }
     }
 }
 
 // A bare search from the root: every slot's row in the log, and how many there were; or a refusal, and the log as it
 // came.
-pub fn search(m: u32, t: u32, leaves: &[u8], log: &mut [u8]) -> Found
+#[tactic(auto, using(crate::proofs::VerdictLaws::root_ready))]
+pub fn search(m: u32, t: u32, leaves: &[u8], log: &mut [u8]) -> Result<Searched, Refusal>
     ensures { SearchPromise m t leaves.now log.old result log.new }
 {
-    let verdict = search_verdict(m, t, leaves, log.len());
-    match verdict {
-        Verdict::Refused(refusal) => Found::Refused(refusal),
-        Verdict::Granted => {
-            let start = Tally {
-                rows: 0,
-                silences: 0,
-                collisions: 0,
-            };
-            let tally = visit(leaves, log, m as usize, 0, t as usize, start);
-            Found::Searched {
-                rows: tally.rows,
-                silences: tally.silences,
-                collisions: tally.collisions,
-            }
-        }
-    }
+    search_verdict(m, t, leaves, log.len())?;
+    let tree = Subtree {
+        first: 0,
+        width: t as usize,
+    };
+    Ok(visit(leaves, log, m as usize, tree, Searched::START))
 }
