@@ -1,25 +1,24 @@
 -- One event, by what the calls of its code leave.
 use mathlib.Core.Path.{◌≡◌, refl, ap}
 use mathlib.Core.List.{List, map}
-use Prim.Native.Nat.{ℕ, ◌≤◌}
+use Prim.Native.Nat.{ℕ, zero, suc, ◌≤◌}
 use native.Mathlib.Omega.{arith}
-use lib.ListN.{length}
+use lib.ListN.{length, get_or}
 use Rattle.rows.specs.declared.Channel.{Channel}
 use Rattle.rows.specs.declared.Channel.TheVariants.{Silence, Busy, Collision}
 use Rattle.messages.specs.declared.Message.{Message}
-use Rattle.messages.specs.Lists.{TimedList}
+use Rattle.messages.specs.Message.{blank}
 use Rattle.messages.proofs.KeptLaws.{bare, bare_set}
 use Rattle.phases.specs.declared.Shop.{Shop}
 use Rattle.phases.specs.declared.State.{State}
 use Rattle.contention.specs.Contenders.{contenders, last_of}
 use Rattle.events.specs.Event.{channel_of, used_by, marked, event_on, event}
-use Rattle.events.specs.Work.{SendReady}
 
--- an event lasts at most 1,000 slots
-pub used_few : (c : Channel) (ms : List Message) (i : ℕ) → SendReady c ms i → TimedList ms → used_by c ms i ≤ 1000
-used_few Silence ms i h timed = omega arith
-used_few Busy ms i h timed = (timed i h).short
-used_few Collision ms i h timed = omega arith
+-- an event lasts at most 1,000 slots where the message that may be sent does
+pub used_few : (n i : ℕ) (ms : List Message) → (n ≡ 1 → (get_or ms i blank).length ≤ 1000) → used_by (channel_of n) ms i ≤ 1000
+used_few zero i ms h = omega arith
+used_few (suc zero) i ms h = h refl
+used_few (suc (suc n)) i ms h = omega arith
 
 -- an event by the number of its contenders
 pub event_by : (S : Shop) (table : List ℕ) (ms : List Message) (σ : State) (n : ℕ)
