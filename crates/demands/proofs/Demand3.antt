@@ -6,7 +6,7 @@ use Prim.Native.Nat.{ℕ, zero, suc, ◌+◌, ◌*◌, ◌^◌, ◌/◌, ◌≤�
 use native.Mathlib.Nat.{one-mul}
 use native.Mathlib.Omega.{arith}
 use lib.ListN.{length, drop, replicate, length-map}
-use Rattle.refusals.specs.declared.Verdict.TheVariants.{Granted}
+use Rattle.refusals.specs.Numbers.{granted}
 use Rattle.rows.specs.declared.Row.{Row}
 use Rattle.rows.specs.declared.Channel.TheVariants.{Collision}
 use Rattle.trees.specs.Shape.{nodes}
@@ -177,7 +177,7 @@ quiet_same ms ns same from (r ∷ rows) q = (
 
 -- THE SECOND HALF OF DEMAND 3, for every granted input
 pub static_searches : (S : Shop) (owners : List ℕ) (whole : Bool) (ms : List Message) (budget room : ℕ)
-    → run_verdict S owners whole ms budget room ≡ Granted → OneIndexEach S owners → StaticSearches S owners ms
+    → run_verdict S owners whole ms budget room ≡ granted → OneIndexEach S owners → StaticSearches S owners ms
 static_searches S owners whole ms budget room granted one j k s c q =
     let p = passed S owners whole ms budget room granted in
     let W : World = world_at S owners ms j in
@@ -188,7 +188,7 @@ static_searches S owners whole ms budget room granted one j k s c q =
 
 -- THE SAME BY SLOTS: nothing arrives from the collision until the search's end
 pub static_until : (S : Shop) (owners : List ℕ) (whole : Bool) (ms : List Message) (budget room : ℕ)
-    → run_verdict S owners whole ms budget room ≡ Granted → OneIndexEach S owners → StaticUntil S owners ms
+    → run_verdict S owners whole ms budget room ≡ granted → OneIndexEach S owners → StaticUntil S owners ms
 static_until S owners whole ms budget room granted one j k s c q =
     let p = passed S owners whole ms budget room granted in
     let W : World = world_at S owners ms j in

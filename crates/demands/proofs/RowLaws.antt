@@ -10,7 +10,7 @@ use lib.ListN.{length, get_or, set, length-map, get_or-eq_default}
 use lib.Seq.{get_or-set_same, get_or-set_other}
 use borrow.Author.Tests.{eqb-true, eqb-false}
 use Rattle.refusals.proofs.Verdicts.{both}
-use Rattle.refusals.specs.declared.Verdict.TheVariants.{Granted}
+use Rattle.refusals.specs.Numbers.{granted}
 use Rattle.rows.specs.declared.Row.{Row}
 use Rattle.rows.specs.declared.Phase.{Phase}
 use Rattle.rows.specs.declared.Phase.TheVariants.{Free as FreePhase, Time as TimePhase}
@@ -57,11 +57,6 @@ lasting_same ms ns same l = record {
     still : (i : ℕ) → (get_or ns i blank).length ≡ (get_or ms i blank).length
     still i = ap (λ (m : Message). m.length) (bare_at ms ns same i)
 
-length_at : (ms : List Message) (i : ℕ) → get_or (map (λ m. m.length) ms) i 0 ≡ (get_or ms i blank).length
-length_at [] i = refl
-length_at (m ∷ ms) zero = refl
-length_at (m ∷ ms) (suc i) = length_at ms i
-
 -- ---- one event
 
 -- neither silence nor a collision is a sending
@@ -96,7 +91,7 @@ module _ (S : Shop) (table : List ℕ) (ms : List Message) (σ : State) where
   event_sends : Sends σ.slot (event S table ms σ).row ms (event S table ms σ).messages
   event_sends =
       let n : ℕ = length (contenders S table ms σ) in
-      by_number n (used_by (channel_of n) (map (λ m. m.length) ms) last) refl
+      by_number n (used_by (channel_of n) ms last) refl
 
   -- the next event starts where this one ends
   event_slot : (event S table ms σ).state.slot ≡ σ.slot + (event S table ms σ).row.used
@@ -105,15 +100,11 @@ module _ (S : Shop) (table : List ℕ) (ms : List Message) (σ : State) where
   event_used : Lasting ms → (1 ≤ (event S table ms σ).row.used) × ((event S table ms σ).row.used ≤ 1000)
   event_used l =
       let n : ℕ = length (contenders S table ms σ) in
-      (go n refl, used_few (channel_of n) (map (λ m. m.length) ms) last shorts)
+      (go n refl, used_few n last ms (λ e. l.short last))
     where
-      shorts : (i : ℕ) → get_or (map (λ m. m.length) ms) i 0 ≤ 1000
-      shorts i = rw (length_at ms i) (l.short i)
-
-      go : (n : ℕ) → length (contenders S table ms σ) ≡ n → 1 ≤ used_by (channel_of n) (map (λ m. m.length) ms) last
+      go : (n : ℕ) → length (contenders S table ms σ) ≡ n → 1 ≤ used_by (channel_of n) ms last
       go zero e = omega arith
-      go (suc zero) e =
-          rw (length_at ms last) (l.some last (contenders_messages S table ms σ (omega arith)).0)
+      go (suc zero) e = l.some last (contenders_messages S table ms σ (omega arith)).0
       go (suc (suc n)) e = omega arith
 
 -- ---- what an event of the row r, in the slot, does to the messages
@@ -267,7 +258,7 @@ module _ (S : Shop) (table : List ℕ) (k : ℕ) (ms : List Message)
 
 -- THE ROWS OF EVERY GRANTED RUN, at each number of events up to its budget
 pub rows_tell : (S : Shop) (owners : List ℕ) (whole : Bool) (ms : List Message) (budget room : ℕ)
-    → run_verdict S owners whole ms budget room ≡ Granted → (k : ℕ) → k ≤ budget → RowsTell S owners ms k
+    → run_verdict S owners whole ms budget room ≡ granted → (k : ℕ) → k ≤ budget → RowsTell S owners ms k
 rows_tell S owners whole ms budget room granted k h =
     let p = passed S owners whole ms budget room granted in
     let lasting = lasting_same ms (fresh ms) (bare_fresh ms) (lasting_fit S.stations ms p.fit) in
