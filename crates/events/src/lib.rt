@@ -3,7 +3,7 @@
 // Uses rows, messages, phases and contention.
 #![tactic(auto)]
 
-ghost use Rattle.std.specs.Prelude.{◌≡◌, ◌≤◌, ◌<◌, length};
+ghost use Rattle.std.specs.Prelude.{◌≡◌, ◌≤◌};
 ghost use Rattle.events.specs.Event.{channel_of, used_by, message_by, marked, row_of};
 ghost use Rattle.events.specs.Work.{SendReady, RowReady, StepReady, Stepped};
 

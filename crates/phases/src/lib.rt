@@ -6,9 +6,7 @@
 //   time search over: free where something was sent in it, else the reference time grows and it starts anew
 #![tactic(auto)]
 
-ghost use Rattle.std.specs.Prelude.{◌≡◌, ◌/◌, ◌<◌, ◌≤◌};
-ghost use Rattle.trees.specs.Shape.{height_of};
-ghost use Rattle.trees.specs.Wire.{next_width};
+ghost use Rattle.std.specs.Prelude.{◌≡◌, ◌≤◌};
 ghost use Rattle.phases.specs.After.{time_start, time_over, time_on, static_on, time_down, after};
 ghost use Rattle.phases.specs.Work.{Grown, Sound, Within, next_in};
 
