@@ -1,53 +1,26 @@
 -- What the filling of a tree stands on: the code of a share, the children written so far, a part of the list written anew.
-use mathlib.Core.Path.{◌≡◌, refl, sym, ap, ◌∙◌, subst}
+use mathlib.Core.Path.{◌≡◌, sym, ap, ◌∙◌, subst}
 use mathlib.Core.List.{List, [], ◌++◌}
-use Prim.Native.Nat.{ℕ, zero, suc, ◌+◌, ◌*◌, ◌^◌, ◌/◌, ◌%◌, ◌-◌, ◌≤◌, ◌<◌}
+use Prim.Native.Nat.{ℕ, zero, suc, ◌+◌, ◌*◌, ◌^◌, ◌/◌, ◌-◌, ◌≤◌, ◌<◌}
 use native.Mathlib.Nat.{zero-mul, suc-mul, sub-zero, sub_self, one-le-pow}
 use native.Mathlib.Omega.{arith}
-use lib.ListN.{length, take, drop, set, replicate, length-drop, drop_of_length-le}
+use lib.ListN.{length, take, drop, replicate, length-drop, drop_of_length-le}
 use lib.Seq.{length-take-le, drop_at, drop-drop}
-use borrow.Author.Tests.{le-leb, lt-leb}
 use borrow.Rule.Slice.PartMut.{put_mid, post_of, same_len_mid}
 use Rattle.trees.specs.Shape.{Tree}
-use Rattle.trees.proofs.Powers.{Below, below, under, smaller, child_room, power}
-use Rattle.trees.proofs.Shares.{equal_share, extra, share, up_from}
+use Rattle.trees.proofs.Powers.{Below, below, under, smaller, shrinks, child_room, power}
+use Rattle.trees.proofs.Shares.{share, up_from}
 use Rattle.trees.proofs.ShareLaws.{shares_serve, shares_fit}
 use Rattle.trees.proofs.SlopeTheorem.{shares_worth}
 use Rattle.trees.proofs.PlaceLaws.{Placed, PlacedKids, place_none, place_one, kids_none, kids_cons, place_node}
 
--- ---- the code of a share
-
-pub equal_more : (m u w j : ℕ) → m - w % m ≤ j → u * (w / m) + u ≡ equal_share m u w j
-equal_more m u w j h = simp (le-leb (m - w % m) j h)
-
-pub equal_same : (m u w j : ℕ) → j < m - w % m → u * (w / m) ≡ equal_share m u w j
-equal_same m u w j h = simp (lt-leb (m - w % m) j h)
-
-pub share_many : (m q k j : ℕ) → 2 * q ≤ k → equal_share m 1 k j ≡ share m q k j
-share_many m q k j h = rw (le-leb (2 * q) k h, share)
-
-few : (m q k j : ℕ) → k < 2 * q → equal_share m 2 (k / 2) j + extra (k % 2) j ≡ share m q k j
-few m q k j h = rw (lt-leb (2 * q) k h, share)
-
-pub share_first : (m q k j : ℕ) → k < 2 * q → j ≡ 0 → equal_share m 2 (k / 2) j + k % 2 ≡ share m q k j
-share_first m q k zero h e = few m q k 0 h
-share_first m q k (suc j) h e = absurd (omega arith)
-
-pub share_other : (m q k j : ℕ) → k < 2 * q → (j ≡ 0 → ⊥) → equal_share m 2 (k / 2) j ≡ share m q k j
-share_other m q k zero h e = absurd (e refl)
-share_other m q k (suc j) h e = omega (arith, few m q k (suc j) h)
-
 -- ---- none and one
 
-pub placed_none : (m n t : ℕ) (out d : List ℕ) → 2 ≤ m → t ≡ m ^ n → length d ≡ t → out ≡ replicate (length d) 0 → Placed m n 0 out
-placed_none m n t out d h e len f = subst (Placed m n 0) (sym (f ∙ ap (λ (x : ℕ). replicate x 0) (len ∙ e))) (place_none m n (omega arith))
-
-pub placed_one : (m n t : ℕ) (out d : List ℕ) → 2 ≤ m → t ≡ m ^ n → length d ≡ t → out ≡ replicate (length d) 0 → Placed m n 1 (set out 0 1)
-placed_one m n t out d h e len f = go t e len
-  where
-    go : (t : ℕ) → t ≡ m ^ n → length d ≡ t → Placed m n 1 (set out 0 1)
-    go zero e len = absurd (omega (arith, one-le-pow n m (omega arith)))
-    go (suc w) e len = subst (λ (l : List ℕ). Placed m n 1 (set l 0 1)) (sym (f ∙ ap (λ (x : ℕ). replicate x 0) len)) (place_one m n w (omega arith) e)
+pub placed_few : (m n k t : ℕ) (front all : List ℕ) → 2 ≤ m → k < 2 → t ≡ m ^ n → all ≡ replicate t 0 → front ≡ replicate (length (take k all)) 1 → Placed m n k (front ++ drop k all)
+placed_few m n zero t front all h g e a f = simp (f, a, e) (place_none m n (omega arith))
+placed_few m n (suc zero) zero front all h g e a f = absurd (omega (arith, one-le-pow n m (omega arith)))
+placed_few m n (suc zero) (suc w) front all h g e a f = simp (f, a) (place_one m n w (omega arith) e)
+placed_few m n (suc (suc k)) t front all h g e a f = absurd (omega arith)
 
 -- ---- a part of a list, written anew
 
@@ -81,13 +54,13 @@ pub record Filling (m t k j : ℕ) (out : List ℕ) : Type 0 where
   pub count : length out ≡ t
   pub filled : (n : ℕ) → t / m ≡ m ^ n → Filled m t k j n out
 
-pub filling_first : (m t k : ℕ) (out : List ℕ) → Tree m t → k ≤ t → (k ≡ 0 → ⊥) → (k ≡ 1 → ⊥) → length out ≡ t → Filling m t k m out
-filling_first m t k out tree le none one len =
+pub filling_first : (m t k : ℕ) (out : List ℕ) → Tree m t → k ≤ t → 2 ≤ k → length out ≡ t → Filling m t k m out
+filling_first m t k out tree le two len =
     let whole : m * (t / m) ≡ t = (under m t tree (omega arith)).whole in
     record {
       tree = tree;
       inside = le;
-      two = omega arith;
+      two = two;
       left = omega arith;
       count = len;
       filled = λ n e. rw (sub_self m) (subst (PlacedKids m n []) (sym (drop_of_length-le out {i = m * (t / m)} (omega arith))) (kids_none m n));
@@ -107,11 +80,17 @@ module _ (m t k j : ℕ) (out : List ℕ) (f : Filling m t k (suc j) out) where
       let w : t / m ≡ m ^ U.under = U.width in
       rw w (shares_fit m U.under k f.tree.branches f.two (omega (arith, f.inside, power m t f.tree more U.under w)) j f.left)
 
-  pub child_ready : (a : ℕ) → a ≡ share m (t / m) k j → Tree m (t / m) × (a ≤ t / m) × (length (take (j * (t / m) + t / m - j * (t / m)) (drop (j * (t / m)) out)) ≡ t / m)
-  child_ready a e = (smaller m t f.tree more, omega (arith, share_inside), mid_length (j * (t / m)) (t / m) out (omega (arith, room, f.count)))
+  abbrev pub part : List ℕ
+  part = take (j * (t / m) + t / m - j * (t / m)) (drop (j * (t / m)) out)
 
-  pub filling_next : (a : ℕ) (u : List ℕ) → a ≡ share m (t / m) k j → length u ≡ length (take (j * (t / m) + t / m - j * (t / m)) (drop (j * (t / m)) out))
-      → ((n : ℕ) → t / m ≡ m ^ n → Placed m n a u) → Filling m t k j (put_mid (j * (t / m)) (j * (t / m) + t / m - j * (t / m)) out u)
+  part_length : length part ≡ t / m
+  part_length = mid_length (j * (t / m)) (t / m) out (omega (arith, room, f.count))
+
+  pub child_ready : (a : ℕ) → a ≡ share m (t / m) k j → (length part < t) × (Tree m (length part) × (a ≤ length part))
+  child_ready a e = rw part_length (omega (arith, shrinks m t f.tree more), (smaller m t f.tree more, omega (arith, share_inside)))
+
+  pub filling_next : (a : ℕ) (u : List ℕ) → a ≡ share m (t / m) k j → length u ≡ length part
+      → ((n : ℕ) → length part ≡ m ^ n → Placed m n a u) → Filling m t k j (put_mid (j * (t / m)) (j * (t / m) + t / m - j * (t / m)) out u)
   filling_next a u e len p =
       let S : ℕ = t / m in
       let rest : m - j ≡ suc (m - suc j) = omega (arith, f.left) in
@@ -123,7 +102,8 @@ module _ (m t k j : ℕ) (out : List ℕ) (f : Filling m t k (suc j) out) where
         two = f.two;
         left = omega (arith, f.left);
         count = mid_keeps (j * S) S out u len ∙ f.count;
-        filled = λ n w. rw (rest, tail) (kids_cons m n (share m S k j) (up_from (share m S k) (suc j) (m - suc j)) u (drop (suc j * S) out) (subst (λ (x : ℕ). Placed m n x u) e (p n w)) (f.filled n w));
+        filled = λ n w. rw (rest, tail) (kids_cons m n (share m S k j) (up_from (share m S k) (suc j) (m - suc j)) u (drop (suc j * S) out)
+            (subst (λ (x : ℕ). Placed m n x u) e (p n (part_length ∙ w))) (f.filled n w));
       }
 
 pub filling_done : (m t k : ℕ) (out : List ℕ) → Filling m t k 0 out → (n : ℕ) → t ≡ m ^ n → Placed m n k out

@@ -5,7 +5,7 @@
 // Uses refusals and trees.
 #![tactic(auto)]
 
-ghost use Rattle.std.specs.Prelude.{◌≡◌, ℕ, ◌^◌, ◌≤◌, length, replicate};
+ghost use Rattle.std.specs.Prelude.{◌≡◌, ℕ, ◌^◌, ◌≤◌, length};
 ghost use Rattle.trees.specs.Shape.{Tree};
 ghost use Rattle.trees.proofs.Shares.{equal_share, share as share_of};
 ghost use Rattle.trees.proofs.PlaceLaws.{Placed};
@@ -13,13 +13,6 @@ ghost use Rattle.placements.specs.Answer.{placement_verdict};
 ghost use Rattle.placements.specs.Promise.{PlacementPromise};
 
 use refusals::{Refusal, Verdict};
-
-// The answer of `place`.
-#[derive(Clone, Copy)]
-pub enum Placement {
-    Placed,
-    Refused(Refusal),
-}
 
 // Share j of some units of one or two leaves in m shares: the last `units` mod m shares have a unit more.
 fn equal_share(m: usize, unit: usize, units: usize, j: usize) -> usize
@@ -43,38 +36,20 @@ fn share(m: usize, width: usize, k: usize, j: usize) -> usize
     if j == 0 { pairs + k % 2 } else { pairs }
 }
 
-fn clear(leaves: &mut [u8])
-    ensures { leaves.new ≡ replicate (length leaves.old) 0 }
+// A tree with k active leaves: none or one by itself, more as shares of the subtrees, each in its part of the list.
+fn fill_tree(m: usize, k: usize, leaves: &mut [u8])
+    requires { Tree m (length leaves.old) × (k ≤ length leaves.old) }
+    ensures { (n : ℕ) → length leaves.old ≡ m ^ n → Placed m n k leaves.new }
 {
-    let mut i = 0;
-    while i < leaves.len() {
-        leaves[i] = 0;
-        i += 1;
-    }
-}
-
-// A tree of t leaves with k active ones; each subtree gets its share and its part of the list.
-fn fill_tree(m: usize, t: usize, k: usize, leaves: &mut [u8])
-    requires { Tree m t × (k ≤ t) × (length leaves.old ≡ t) }
-    ensures { (n : ℕ) → t ≡ m ^ n → Placed m n k leaves.new }
-{
-    if k == 0 {
-        clear(leaves);
+    if k < 2 {
+        leaves.fill(0);
+        leaves[..k].fill(1);
         return;
     }
-    if k == 1 {
-        clear(leaves);
-        leaves[0] = 1;
-        return;
-    }
-    let width = t / m;
-    let mut j = m;
-    while 0 < j {
-        j -= 1;
+    let width = leaves.len() / m;
+    for j in (0..m).rev() {
         let from = j * width;
-        let to = from + width;
-        let active = share(m, width, k, j);
-        fill_tree(m, width, active, &mut leaves[from..to]);
+        fill_tree(m, share(m, width, k, j), &mut leaves[from..from + width]);
     }
 }
 
@@ -82,31 +57,21 @@ fn fill_tree(m: usize, t: usize, k: usize, leaves: &mut [u8])
 fn placement_verdict(m: u32, t: u32, k: u32, len: usize) -> Verdict
     ensures { result ≡ placement_verdict m t k len }
 {
-    let tree = trees::tree_verdict(m, t);
-    match tree {
-        Verdict::Refused(refusal) => Verdict::Refused(refusal),
-        Verdict::Granted => {
-            if len != t as usize {
-                Verdict::Refused(Refusal::LeafList)
-            } else if t < k {
-                Verdict::Refused(Refusal::ActiveCount)
-            } else {
-                Verdict::Granted
-            }
-        }
+    trees::tree_verdict(m, t)?;
+    if len != t as usize {
+        return Err(Refusal::LeafList);
     }
+    if k > t {
+        return Err(Refusal::ActiveCount);
+    }
+    Ok(())
 }
 
 // Writes a placement of k active leaves that costs X(k, t), 1 for active and 0 for not.
-pub fn place(m: u32, t: u32, k: u32, leaves: &mut [u8]) -> Placement
+pub fn place(m: u32, t: u32, k: u32, leaves: &mut [u8]) -> Result<(), Refusal>
     ensures { PlacementPromise m t k leaves.old result leaves.new }
 {
-    let verdict = placement_verdict(m, t, k, leaves.len());
-    match verdict {
-        Verdict::Refused(refusal) => Placement::Refused(refusal),
-        Verdict::Granted => {
-            fill_tree(m as usize, t as usize, k as usize, leaves);
-            Placement::Placed
-        }
-    }
+    placement_verdict(m, t, k, leaves.len())?;
+    fill_tree(m as usize, k as usize, leaves);
+    Ok(())
 }
