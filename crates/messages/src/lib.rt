@@ -49,7 +49,6 @@ impl Message {
 }
 
 // The number of the station's first message in the slot.
-#[tactic(auto, unfolding(crate::specs::Message::first_among, crate::specs::Message::better))]
 pub fn first_message(list: &[Message], station: u32, slot: u32) -> Option<u32>
     requires { Runnable list.now }
     ensures first { unwrap_or result none ≡ first_message list.now slot station }
