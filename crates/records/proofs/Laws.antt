@@ -1,47 +1,52 @@
--- One list laid over another: its length, one record more, and all of it.
-use mathlib.Core.Path.{◌≡◌, refl, sym, ap}
-use Prim.Native.Nat.{ℕ, zero, suc, ◌<◌}
-use native.Mathlib.Nat.{le_of_suc-le-suc, not-suc-le-zero}
+-- One list laid over another: one element more, and all of it; and the record of a list that is lent field by field.
+use mathlib.Core.Path.{◌≡◌, refl, ap}
 use mathlib.Core.List.{List, [], ◌∷◌}
-use lib.ListN.{length, take, get_or, set}
-use lib.Seq.{set-get_or}
-use Rattle.messages.specs.declared.Message.{Message}
+use Prim.Native.Nat.{ℕ, zero, suc, ◌+◌, ◌<◌, ◌≤◌, min}
+use native.Mathlib.Numerals.{add-one}
+use native.Mathlib.Omega.{arith}
+use lib.ListN.{length, take, drop, get_or, set}
+use Rattle.messages.specs.Message.{blank}
+use Rattle.messages.specs.Lists.{listed}
 use Rattle.records.specs.Table.{laid_over}
 
--- within the list, what stands past the end is of no account
-pub get_d_any : (l : List Message) (i : ℕ) (d e : Message) → i < length l → get_or l i d ≡ get_or l i e
-get_d_any [] i d e h = absurd (not-suc-le-zero h)
-get_d_any (x ∷ l) zero d e h = refl
-get_d_any (x ∷ l) (suc i) d e h = get_d_any l i d e (le_of_suc-le-suc h)
+module _ {A : Type 0} where
+  over_nil : (ys : List A) → laid_over [] ys ≡ []
+  over_nil [] = refl
+  over_nil (y ∷ ys) = refl
 
-pub over_nil : (ys : List Message) → laid_over [] ys ≡ []
-over_nil [] = refl
-over_nil (y ∷ ys) = refl
+  -- one element more is laid over
+  over_suc : (xs ys : List A) (i : ℕ) (d : A) → i < length ys → set (laid_over xs (take i ys)) i (get_or ys i d) ≡ laid_over xs (take (suc i) ys)
+  over_suc xs [] i d h = absurd (omega arith)
+  over_suc [] (y ∷ ys) zero d h = refl
+  over_suc (x ∷ xs) (y ∷ ys) zero d h = refl
+  over_suc [] (y ∷ ys) (suc i) d h = refl
+  over_suc (x ∷ xs) (y ∷ ys) (suc i) d h = ap (λ (l : List A). y ∷ l) (over_suc xs ys i d (omega arith))
 
-pub length_over : (xs ys : List Message) → length (laid_over xs ys) ≡ length xs
-length_over xs [] = refl
-length_over [] (y ∷ ys) = refl
-length_over (x ∷ xs) (y ∷ ys) = ap suc (length_over xs ys)
+  pub over_more : (xs ys : List A) (i : ℕ) (d : A) → i < length ys → set (laid_over xs (take i ys)) i (get_or ys i d) ≡ laid_over xs (take (i + 1) ys)
+  over_more xs ys i d h = rw add-one (over_suc xs ys i d h)
 
--- one record more is laid over
-pub over_suc : (xs ys : List Message) (i : ℕ) (d : Message) → i < length ys → set (laid_over xs (take i ys)) i (get_or ys i d) ≡ laid_over xs (take (suc i) ys)
-over_suc xs [] i d h = absurd (not-suc-le-zero h)
-over_suc [] (y ∷ ys) zero d h = refl
-over_suc (x ∷ xs) (y ∷ ys) zero d h = refl
-over_suc [] (y ∷ ys) (suc i) d h = refl
-over_suc (x ∷ xs) (y ∷ ys) (suc i) d h = ap (λ (l : List Message). y ∷ l) (over_suc xs ys i d (le_of_suc-le-suc h))
+  -- as many as there is room for are all
+  pub over_all : (xs ys : List A) (n : ℕ) → min (length xs) (length ys) ≤ n → laid_over xs (take n ys) ≡ laid_over xs ys
+  over_all xs [] zero h = refl
+  over_all xs [] (suc n) h = refl
+  over_all [] (y ∷ ys) n h = over_nil (take n (y ∷ ys))
+  over_all (x ∷ xs) (y ∷ ys) zero h = absurd (omega arith)
+  over_all (x ∷ xs) (y ∷ ys) (suc n) h = ap (λ (l : List A). y ∷ l) (over_all xs ys n (omega arith))
 
--- the same where what is laid over may have come to its end: then nothing changes
-pub over_next : (xs ys : List Message) (i : ℕ) (d : Message) → set (laid_over xs (take i ys)) i (get_or ys i (get_or (laid_over xs (take i ys)) i d)) ≡ laid_over xs (take (suc i) ys)
-over_next xs [] zero d = set-get_or xs zero d
-over_next xs [] (suc i) d = set-get_or xs (suc i) d
-over_next [] (y ∷ ys) zero d = refl
-over_next (x ∷ xs) (y ∷ ys) zero d = refl
-over_next [] (y ∷ ys) (suc i) d = refl
-over_next (x ∷ xs) (y ∷ ys) (suc i) d = ap (λ (l : List Message). y ∷ l) (over_next xs ys i d)
+-- ---- a list that is lent field by field
 
--- as many as there is room for are all
-pub over_take : (xs ys : List Message) → laid_over xs (take (length xs) ys) ≡ laid_over xs ys
-over_take [] ys = sym (over_nil ys)
-over_take (x ∷ xs) [] = refl
-over_take (x ∷ xs) (y ∷ ys) = ap (λ (l : List Message). y ∷ l) (over_take xs ys)
+pub length_listed : (stations arrivals relatives lengths sent : List ℕ) → length (listed stations arrivals relatives lengths sent) ≡ length stations
+length_listed [] arrivals relatives lengths sent = refl
+length_listed (s ∷ stations) arrivals relatives lengths sent = ap suc (length_listed stations (drop 1 arrivals) (drop 1 relatives) (drop 1 lengths) (drop 1 sent))
+
+read_behind : (xs : List ℕ) (i : ℕ) → get_or (drop 1 xs) i 0 ≡ get_or xs (suc i) 0
+read_behind [] i = refl
+read_behind (x ∷ xs) i = refl
+
+-- the record of a place that has a station
+pub listed_at : (stations arrivals relatives lengths sent : List ℕ) (i : ℕ) → i < length stations
+    → record { station = get_or stations i 0; arrival = get_or arrivals i 0; relative = get_or relatives i 0; length = get_or lengths i 0; sent = get_or sent i 0 }
+    ≡ get_or (listed stations arrivals relatives lengths sent) i blank
+listed_at [] arrivals relatives lengths sent i h = absurd (omega arith)
+listed_at (s ∷ stations) arrivals relatives lengths sent zero h = refl
+listed_at (s ∷ stations) arrivals relatives lengths sent (suc i) h = simp read_behind at (listed_at stations (drop 1 arrivals) (drop 1 relatives) (drop 1 lengths) (drop 1 sent) i (omega arith))

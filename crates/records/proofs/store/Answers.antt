@@ -1,27 +1,20 @@
--- One record more is laid over the list; where the table has come to its end nothing changes.
-use Rattle.std.proofs.Common.{List, ap, ◌≡◌, ◌∙◌, arith, get_or, set, take, length, ℕ}
-use lib.ListN.{length-set}
-use native.Mathlib.Numerals.{add-one}
+-- One slot of sending more is laid over the list; in the end all for which there is room.
+use Rattle.std.proofs.Common.{◌∙◌, arith, map}
 use Rattle.messages.specs.declared.Message.{Message}
 use Rattle.messages.specs.Message.{blank}
-use Rattle.records.specs.Table.{laid_over}
-use Rattle.records.proofs.Laws.{over_next, over_take}
+use Rattle.std.proofs.lemmas.List.{get_or-map, length-map}
+use Rattle.records.proofs.Laws.{over_more, over_all}
 use Rattle.records.proofs.store.Goals as goal
 
 pub loop-i-preserved : goal.loop-i-preserved
 loop-i-preserved c =
     let l = c.loop-i in
-    let s = c.args in (
-      omega (arith, length-set l.list l.i c.pick.result),
-      rw (add-one)
-          (ap (λ (m : Message). set l.list l.i m) c.pick.ensures
-          ∙ ap (λ (t : List Message). set t l.i (get_or s.table l.i (get_or t l.i blank))) l.invariant.1
-          ∙ over_next s.list.now s.table l.i blank),
-    )
+    let s = c.args in
+    let there = get_or-map (λ (m : Message). m.sent) s.table.now l.i blank 0 (omega arith) in
+    let more = over_more s.sent.now (map (λ m. m.sent) s.table.now) l.i 0 (omega (arith, length-map s.table.now (λ m. m.sent))) in
+    cc
 
 pub returns : goal.returns
 returns c =
-    let l = c.loop-i in
     let s = c.args in
-    let all : l.i ≡ length s.list.now = omega arith in
-    l.invariant.1 ∙ ap (λ (n : ℕ). laid_over s.list.now (take n s.table)) all ∙ over_take s.list.now s.table
+    c.loop-i.invariant ∙ over_all s.sent.now (map (λ m. m.sent) s.table.now) c.loop-i.i (omega (arith, length-map s.table.now (λ m. m.sent)))
