@@ -2,7 +2,8 @@
 use Rattle.std.proofs.Common.{◌∙◌, arith, replicate}
 use Rattle.messages.specs.Message.{blank}
 use Rattle.messages.specs.Lists.{listed}
-use Rattle.records.proofs.Laws.{length_listed, listed_at, over_more, over_all}
+use Rattle.messages.proofs.ListLaws.{length_listed, listed_at}
+use Rattle.records.proofs.Laws.{over_more, over_all}
 use Rattle.records.proofs.load.Goals as goal
 
 pub loop-i-preserved : goal.loop-i-preserved
