@@ -23,6 +23,15 @@ pub struct Message {
     pub sent: u32,
 }
 
+// A record that is all zero.
+pub const BLANK: Message = Message {
+    station: 0,
+    arrival: 0,
+    relative: 0,
+    length: 0,
+    sent: 0,
+};
+
 impl Message {
     // The absolute deadline.
     pub fn deadline(self) -> u32

@@ -8,16 +8,7 @@ ghost use Rattle.messages.specs.Message.{blank};
 ghost use Rattle.messages.specs.Lists.{listed};
 ghost use Rattle.records.specs.Table.{laid_over};
 
-use messages::Message;
-
-// A record that is all zero.
-const BLANK: Message = Message {
-    station: 0,
-    arrival: 0,
-    relative: 0,
-    length: 0,
-    sent: 0,
-};
+use messages::{BLANK, Message};
 
 // The number at place i; 0 where the field has none.
 fn number_at(field: &[u32], i: usize) -> u32

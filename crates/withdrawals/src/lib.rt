@@ -7,17 +7,8 @@ ghost use Rattle.std.specs.Prelude.{◌≡◌, ◌≤◌, length, take};
 ghost use Rattle.withdrawals.specs.Withdrawal.{kept_of};
 ghost use Rattle.withdrawals.specs.Answer.{withdrawal_verdict, figures, figures_of, list_of};
 
-use messages::Message;
+use messages::{BLANK, Message};
 use refusals::{Refusal, Verdict};
-
-// A record that is all zero.
-const BLANK: Message = Message {
-    station: 0,
-    arrival: 0,
-    relative: 0,
-    length: 0,
-    sent: 0,
-};
 
 // How many records are kept and how many are withdrawn.
 #[derive(Clone, Copy, Debug, PartialEq, Eq)]
