@@ -1,5 +1,4 @@
-pub mod Picked
+pub mod ListLaws
 pub mod PieceLaws
 pub mod LineLaws
-pub mod MessageLaws
-pub mod HeadLaws
+pub mod ShopLaws

@@ -1,133 +1,32 @@
--- Pieces, found one after the other.
-use mathlib.Core.Path.{◌≡◌, refl, sym, ap, ◌∙◌}
-use mathlib.Core.Bool.{Bool, true, false}
-use mathlib.Core.List.{List, [], ◌∷◌, ◌++◌, append_assoc, append-nil}
-use Prim.Native.Nat.{ℕ, suc, ◌+◌, ◌-◌, ◌≤◌, ◌<◌}
-use native.Mathlib.Numerals.{add-one}
-use native.Mathlib.Omega.{arith}
-use lib.Dec.{eqb}
-use lib.ListN.{length, get_or, take, drop, length-drop}
-use lib.Seq.{take-suc, drop-cons, drop-length, get_or-drop}
-use borrow.Author.Tests.{le-leb, lt-leb, eq-eqb, ne_eqb}
-use Rattle.reading.specs.ShopText.{leading, pieces}
-use Rattle.reading.specs.Work.{part, from, Part}
+-- The pieces that `split` yields, one after the other.
+use Rattle.std.proofs.Common.{◌≡◌, Bool, false, List, ◌∷◌, ℕ, ◌<◌, ◌+◌, ◌≤◌, suc, length, get_or, map, eqb, Option, Some, None, Bor, subst, arith}
+use Rattle.std.specs.Fn.{CalledAt}
+use Rattle.std.specs.Iterator.{Yields}
+use Rattle.std.specs.Slice.Iter.{split_rest, split_done, split_callee, split_steps}
+use Rattle.std.specs.declared.slice.Split.{Split}
+use Rattle.std.proofs.lemmas.List.{length-map}
+use Rattle.std.proofs.lemmas.List.Splits.{length-slice_split}
+use Rattle.std.proofs.lemmas.List.Sums.{count_by-le-length}
+use Rattle.std.proofs.lemmas.Iterator.Consumers.{YieldsList-at, YieldsList-turn, YieldsList-end}
+use Rattle.std.proofs.lemmas.Iterator.Splits.{YieldsList-from_slice_split}
+use denote.Param.Members.{Mut}
+use Rattle.reading.specs.ShopText.{pieces}
 
--- some bytes in front of the first piece
-abbrev led : List ℕ → List (List ℕ) → List (List ℕ)
-led p [] = p ∷ []
-led p (q ∷ qs) = (p ++ q) ∷ qs
+-- `bytes` is split at each mark, and xs have come
+module _ {F : Type 0} (s : Split ℕ F) {s₀ : Split ℕ F} {f : F} (g : Mut F (Bor ℕ × Unit {0}) Bool) (mark : ℕ) (bytes : List ℕ) (whole : split_rest s ≡ bytes) (begun : split_done s ≡ false) (closure : split_callee s ≡ f)
+    (tests : (x : ℕ) (b : Bool) (q : F) → CalledAt g f x b q → (q ≡ f) × (b ≡ eqb x mark)) (start : s₀ ≡ s)
+    (xs : List (Bor (List ℕ))) (t : Split ℕ F) (come : Yields (split_steps g) s₀ xs t) (r : Option (Bor (List ℕ))) (u : Split ℕ F) where
+  pub piece_at : (x : Bor (List ℕ)) → r ≡ Some x → split_steps g t r u → (length xs < length (pieces mark bytes)) × (x.now ≡ get_or (pieces mark bytes) (length xs) x.now)
+  piece_at x e step = YieldsList-turn (YieldsList-at start (YieldsList-from_slice_split g (λ b. eqb b mark) bytes whole begun closure tests)) xs t come r u x e step
 
-led_leading : (p : List ℕ) (b : ℕ) (ps : List (List ℕ)) → led p (leading b ps) ≡ led (p ++ (b ∷ [])) ps
-led_leading p b [] = refl
-led_leading p b (q ∷ qs) = ap (λ (l : List ℕ). l ∷ qs) (sym (append_assoc p (b ∷ []) q))
+  pub pieces_end : r ≡ None → split_steps g t r u → (map (λ x. x.now) xs ≡ pieces mark bytes) × (length xs ≡ length (pieces mark bytes))
+  pieces_end e step = YieldsList-end (YieldsList-at start (YieldsList-from_slice_split g (λ b. eqb b mark) bytes whole begun closure tests)) xs t come r u e step
 
-pieces_mark : (mark b : ℕ) (bytes : List ℕ) → b ≡ mark → pieces mark (b ∷ bytes) ≡ [] ∷ pieces mark bytes
-pieces_mark mark b bytes e = rw (eq-eqb b mark e, pieces) refl
+-- two came before the others
+pub two_before : {F : Type 0} (g : Mut F (Bor ℕ × Unit {0}) Bool) (s s₁ s₂ s₃ t : Split ℕ F) (x y : Bor (List ℕ)) (xs : List (Bor (List ℕ))) → split_steps g s (Some x) s₁ → split_steps g s₁ (Some y) s₂ → s₃ ≡ s₂
+    → Yields (split_steps g) s₃ xs t → Yields (split_steps g) s (x ∷ y ∷ xs) t
+two_before g s s₁ s₂ s₃ t x y xs first second e come = (s₁, first, (s₂, second, subst (λ z. Yields (split_steps g) z xs t) e come))
 
-pieces_other : (mark b : ℕ) (bytes : List ℕ) → (b ≡ mark → ⊥) → pieces mark (b ∷ bytes) ≡ leading b (pieces mark bytes)
-pieces_other mark b bytes f = rw (ne_eqb b mark f, pieces) refl
-
--- nothing in front changes nothing, since there is always a piece
-led_nothing : (mark : ℕ) (bytes : List ℕ) → led [] (pieces mark bytes) ≡ pieces mark bytes
-led_nothing mark [] = refl
-led_nothing mark (b ∷ bytes) = go (eqb b mark) refl
-  where
-    lead : (ps : List (List ℕ)) → led [] (leading b ps) ≡ leading b ps
-    lead [] = refl
-    lead (q ∷ qs) = refl
-
-    go : (t : Bool) → eqb b mark ≡ t → led [] (pieces mark (b ∷ bytes)) ≡ pieces mark (b ∷ bytes)
-    go true e = rw (e, pieces) refl
-    go false e = rw (e, pieces) (lead (pieces mark bytes))
-
-pub from_inside : (mark : ℕ) (bytes : List ℕ) (a : ℕ) → a ≤ length bytes → from mark bytes a ≡ pieces mark (drop a bytes)
-from_inside mark bytes a h = rw (le-leb a (length bytes) h, from) refl
-
-pub from_behind : (mark : ℕ) (bytes : List ℕ) (a : ℕ) → length bytes < a → from mark bytes a ≡ []
-from_behind mark bytes a h = rw (lt-leb a (length bytes) h, from) refl
-
--- no mark from place a up to place e
-pub record Seeking (bytes : List ℕ) (a mark e : ℕ) : Type 0 where
-  pub after : a ≤ e
-  pub inside : e ≤ length bytes
-  pub first : pieces mark (drop a bytes) ≡ led (part a e bytes) (pieces mark (drop e bytes))
-
-pub seeking_start : (bytes : List ℕ) (a mark : ℕ) → a ≤ length bytes → Seeking bytes a mark a
-seeking_start bytes a mark h =
-    let none : a - a ≡ 0 = omega arith in
-    record {
-      after = omega arith;
-      inside = h;
-      first = sym (ap (λ (k : ℕ). led (take k (drop a bytes)) (pieces mark (drop a bytes))) none ∙ led_nothing mark (drop a bytes));
-    }
-
-module _ (bytes : List ℕ) (a mark e : ℕ) (s : Seeking bytes a mark e) where
-  module _ (h : e < length bytes) where
-    abbrev b : ℕ
-    b = get_or bytes e 0
-
-    rest : drop e bytes ≡ b ∷ drop (suc e) bytes
-    rest = drop-cons bytes e 0 h
-
-    one : drop (e + 1) bytes ≡ drop (suc e) bytes
-    one = ap (λ (k : ℕ). drop k bytes) (add-one e)
-
-    longer : part a (e + 1) bytes ≡ part a e bytes ++ (b ∷ [])
-    longer =
-        let n : e + 1 - a ≡ suc (e - a) = omega (arith, s.after) in
-        let place : a + (e - a) ≡ e = omega (arith, s.after) in
-        ap (λ (k : ℕ). take k (drop a bytes)) n
-        ∙ take-suc (drop a bytes) (e - a) 0 (omega (arith, s.after, length-drop a bytes))
-        ∙ ap (λ (x : ℕ). part a e bytes ++ (x ∷ [])) (get_or-drop a bytes (e - a) 0 ∙ ap (λ (k : ℕ). get_or bytes k 0) place)
-
-    pub seeking_next : (b ≡ mark → ⊥) → Seeking bytes a mark (e + 1)
-    seeking_next f = record {
-      after = omega (arith, s.after);
-      inside = omega arith;
-      first = s.first
-          ∙ ap (λ (l : List ℕ). led (part a e bytes) (pieces mark l)) rest
-          ∙ ap (led (part a e bytes)) (pieces_other mark b (drop (suc e) bytes) f)
-          ∙ led_leading (part a e bytes) b (pieces mark (drop (suc e) bytes))
-          ∙ ap (λ (l : List ℕ). led l (pieces mark (drop (suc e) bytes))) (sym longer)
-          ∙ ap (λ (l : List ℕ). led (part a (e + 1) bytes) (pieces mark l)) (sym one);
-    }
-
-    pub seeking_found : b ≡ mark → Part bytes a mark e
-    seeking_found f = record {
-      after = s.after;
-      inside = s.inside;
-      first = from_inside mark bytes a (omega (arith, s.after))
-          ∙ s.first
-          ∙ ap (λ (l : List ℕ). led (part a e bytes) (pieces mark l)) rest
-          ∙ ap (led (part a e bytes)) (pieces_mark mark b (drop (suc e) bytes) f)
-          ∙ ap (λ (l : List ℕ). l ∷ pieces mark (drop (suc e) bytes)) (append-nil (part a e bytes))
-          ∙ ap (λ (l : List ℕ). part a e bytes ∷ pieces mark l) (sym one)
-          ∙ ap (λ (ps : List (List ℕ)). part a e bytes ∷ ps) (sym (from_inside mark bytes (e + 1) (omega arith)));
-    }
-
-  pub seeking_end : length bytes ≤ e → Part bytes a mark e
-  seeking_end h =
-      let end : e ≡ length bytes = omega (arith, s.inside) in
-      let none : drop e bytes ≡ [] = ap (λ (k : ℕ). drop k bytes) end ∙ drop-length bytes in
-      record {
-        after = s.after;
-        inside = s.inside;
-        first = from_inside mark bytes a (omega (arith, s.after, s.inside))
-            ∙ s.first
-            ∙ ap (λ (l : List ℕ). led (part a e bytes) (pieces mark l)) none
-            ∙ ap (λ (l : List ℕ). l ∷ []) (append-nil (part a e bytes))
-            ∙ ap (λ (ps : List (List ℕ)). part a e bytes ∷ ps) (sym (from_behind mark bytes (e + 1) (omega arith)));
-      }
-
--- there is always a piece
-pub pieces_some : (mark : ℕ) (bytes : List ℕ) → 1 ≤ length (pieces mark bytes)
-pieces_some mark [] = omega arith
-pieces_some mark (b ∷ bytes) = go (eqb b mark) refl
-  where
-    lead : (ps : List (List ℕ)) → 1 ≤ length (leading b ps)
-    lead [] = omega arith
-    lead (q ∷ qs) = omega arith
-
-    go : (t : Bool) → eqb b mark ≡ t → 1 ≤ length (pieces mark (b ∷ bytes))
-    go true e = rw (e, pieces) (omega arith)
-    go false e = rw (e, pieces) (lead (pieces mark bytes))
+-- as many pieces as bytes, at most, where two came before
+pub few_left : (count : ℕ) (xs : List (Bor (List ℕ))) (mark : ℕ) (bytes : List ℕ) → count ≡ length (map (λ x. x.now) xs) → suc (suc (length xs)) < length (pieces mark bytes) → count + 1 ≤ length bytes
+few_left count xs mark bytes e h = omega (arith, length-map xs (λ x. x.now), length-slice_split (λ b. eqb b mark) bytes, count_by-le-length (λ b. eqb b mark) bytes)

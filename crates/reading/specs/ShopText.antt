@@ -11,32 +11,22 @@
 --   owners_of text      line 2
 --   messages_of text    the further lines: station, arrival, relative deadline, length
 use Rattle.std.specs.Prelude.{Bool, true, false, ◌&&◌, List, [], ◌∷◌, map, ℕ, eqb, leb, length, get_or, drop}
+use Rattle.std.specs.List.{list_all, slice_split}
 use Rattle.messages.specs.declared.Message.{Message}
 use Rattle.phases.specs.declared.Shop.{Shop}
 use Rattle.numbers.specs.Decimal.{is_number, value_of}
 
--- a byte in front of the first piece
-abbrev pub leading : ℕ → List (List ℕ) → List (List ℕ)
-leading b [] = (b ∷ []) ∷ []
-leading b (p ∷ ps) = (b ∷ p) ∷ ps
-
 -- parted at each mark
 abbrev pub pieces : ℕ → List ℕ → List (List ℕ)
-pieces mark [] = [] ∷ []
-pieces mark (b ∷ bytes) = elim (eqb b mark) [ true ↦ [] ∷ pieces mark bytes | false ↦ leading b (pieces mark bytes) ]
+pieces mark bytes = slice_split (λ b. eqb b mark) bytes
 
 -- 32 is the byte of a space
 abbrev pub parts : List ℕ → List (List ℕ)
 parts line = pieces 32 line
 
--- each part
-abbrev pub all_numbers : List (List ℕ) → Bool
-all_numbers [] = true
-all_numbers (p ∷ ps) = is_number p && all_numbers ps
-
 -- a line of numbers
 abbrev pub is_numbers : List ℕ → Bool
-is_numbers line = all_numbers (parts line)
+is_numbers line = list_all is_number (parts line)
 
 -- its numbers
 abbrev pub numbers_of : List ℕ → List ℕ

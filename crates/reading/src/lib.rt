@@ -1,266 +1,130 @@
 // Reading: the text of a shop, line by line (docs/RULES.md, section 12). `read_shop` reads it all.
-// Numbers that do not fit into a lent column are read and counted, and not kept: no shop with so many is run.
+// Numbers and messages that do not fit into a lent list are read and counted, and not kept: no shop with so many is run.
 // Uses messages and phases for what a text gives, and numbers.
 #![tactic(auto)]
 
-ghost use Rattle.std.specs.Prelude.{◌≡◌, ◌≤◌, length, set};
-ghost use Rattle.reading.specs.Work.{from, Part, LineRead, shop_line, message_line};
-ghost use Rattle.reading.specs.Work.{MessagePut, MessagesRead, HeadRead, ShopRead};
+ghost use Rattle.std.specs.Prelude.{◌≡◌, false, [], ◌∷◌, ◌++◌, set, MatchOption};
+ghost use Rattle.reading.specs.ShopText.{lines_of, shop_lines};
+ghost use Rattle.reading.specs.Work.{LineRead, row_of, shop_line, message_line, ShopRead};
 
 use messages::Message;
-use numbers::Number;
 use phases::{Shape, Shop};
 
-const SPACE: u8 = 32;
+const SPACE: u8 = b' ';
 
-const LINE_FEED: u8 = 10;
+const LINE_FEED: u8 = b'\n';
 
 const TEXT_MAX: usize = 65536;
 
-// What the first line gives.
-#[derive(Clone, Copy)]
-pub enum ShopLine {
-    Shop(Shop),
-    Bad,
-}
-
-// What a line of a message gives.
-#[derive(Clone, Copy)]
-pub enum MessageLine {
-    Message(Message),
-    Bad,
-}
-
-// How many messages follow, or that something else does.
-#[derive(Clone, Copy)]
-pub enum Messages {
-    Count(usize),
-    Bad,
-}
-
-// What the first two lines give: a shop, how many owners, and where the third line starts.
-#[derive(Clone, Copy)]
-pub enum Head {
-    Lines {
-        shop: Shop,
-        owners: usize,
-        next: usize,
-    },
-    Bad,
-}
-
 // What the whole text gives: a shop, and how many owners and messages.
 #[derive(Clone, Copy)]
-pub enum Given {
-    Shop {
-        shop: Shop,
-        owners: usize,
-        messages: usize,
-    },
-    Bad,
+pub struct Given {
+    pub shop: Shop,
+    pub owners: usize,
+    pub messages: usize,
 }
 
-// Where the piece that starts at place `at` ends: at the next mark, or at the end.
-fn end_of(bytes: &[u8], at: usize, mark: u8) -> usize
-    requires { at ≤ length bytes.now }
-    ensures { Part bytes.now at mark result }
+// A value of a list, if it has that place.
+fn put<T: Copy>(list: &mut [T], i: usize, value: T)
+    ensures { list.new ≡ set list.old i value }
 {
-    let mut end = at;
-    while end < bytes.len() {
-        if bytes[end] == mark {
-            return end;
-        }
-        end += 1;
-    }
-    end
-}
-
-// A number of a column, if it has that place.
-fn put(column: &mut [u32], i: usize, value: u32)
-    ensures { column.new ≡ set column.old i value }
-{
-    if i < column.len() {
-        column[i] = value;
+    if i < list.len() {
+        list[i] = value;
     }
 }
 
-// The numbers of a line, into the fields as far as they fit; how many there are, 0 where it is no line of numbers.
-fn read_line(line: &[u8], fields: &mut [u32]) -> usize
+// The numbers of a line, into the fields as far as they fit; how many there are, if it is a line of numbers.
+fn read_line(line: &[u8], fields: &mut [u32]) -> Option<usize>
     ensures { LineRead line.now fields.old result fields.new }
 {
-    let mut count: usize = 0;
-    let mut at: usize = 0;
-    while at <= line.len() {
-        let end = end_of(line, at, SPACE);
-        let Number::Value(value) = numbers::read_number(&line[at..end]) else {
-            return 0;
-        };
-        put(&mut *fields, count, value);
+    let mut count = 0;
+    for part in line.split(|&byte| byte == SPACE) {
+        put(fields, count, numbers::read_number(part)?);
         count += 1;
-        at = end + 1;
     }
-    count
+    Some(count)
+}
+
+// A line of just so many numbers.
+fn row_in<const N: usize>(line: &[u8]) -> Option<[u32; N]>
+    ensures { result ≡ row_of N line.now }
+{
+    let mut numbers = [0; N];
+    let count = read_line(line, &mut numbers)?;
+    (count == N).then_some(numbers)
 }
 
 // z c α g mT F mS q
-fn shop_in(line: &[u8]) -> ShopLine
+fn shop_in(line: &[u8]) -> Option<Shop>
     ensures { result ≡ shop_line line.now }
 {
-    let mut f = [0u32; 8];
-    if read_line(line, &mut f) != 8 {
-        return ShopLine::Bad;
-    }
-    let time = Shape {
-        branches: f[4],
-        leaves: f[5],
-    };
-    let index = Shape {
-        branches: f[6],
-        leaves: f[7],
-    };
-    ShopLine::Shop(Shop {
-        stations: f[0],
-        width: f[1],
-        offset: f[2],
-        compression: f[3],
-        time: time,
-        index: index,
+    let [
+        stations,
+        width,
+        offset,
+        compression,
+        time_branches,
+        time_leaves,
+        index_branches,
+        index_leaves,
+    ] = row_in::<8>(line)?;
+    Some(Shop {
+        stations,
+        width,
+        offset,
+        compression,
+        time: Shape {
+            branches: time_branches,
+            leaves: time_leaves,
+        },
+        index: Shape {
+            branches: index_branches,
+            leaves: index_leaves,
+        },
     })
 }
 
 // station arrival d length
-fn message_in(line: &[u8]) -> MessageLine
+fn message_in(line: &[u8]) -> Option<Message>
     ensures { result ≡ message_line line.now }
 {
-    let mut f = [0u32; 4];
-    if read_line(line, &mut f) != 4 {
-        return MessageLine::Bad;
-    }
-    MessageLine::Message(Message {
-        station: f[0],
-        arrival: f[1],
-        relative: f[2],
-        length: f[3],
+    let [station, arrival, relative, length] = row_in::<4>(line)?;
+    Some(Message {
+        station,
+        arrival,
+        relative,
+        length,
         sent: 0,
     })
 }
 
-// Message number i, a field to each column.
-fn put_message(
-    stations: &mut [u32],
-    arrivals: &mut [u32],
-    relatives: &mut [u32],
-    lengths: &mut [u32],
-    i: usize,
-    message: Message,
-)
-    ensures { MessagePut stations.old arrivals.old relatives.old
-        lengths.old i message stations.new arrivals.new relatives.new
-        lengths.new }
+// A text's lines: what is in front of its last byte, which has to be a line feed.
+#[tactic(auto, using(crate::proofs::ShopLaws::ended_cases))]
+fn ended_lines(input: &[u8]) -> Option<&[u8]>
+    ensures { MatchOption result (shop_lines (lines_of input.now) ≡ false)
+        (λ lines. input.now ≡ lines.now ++ LINE_FEED ∷ []) }
 {
-    put(stations, i, message.station);
-    put(arrivals, i, message.arrival);
-    put(relatives, i, message.relative);
-    put(lengths, i, message.length);
+    input.strip_suffix(&[LINE_FEED])
 }
 
-// The messages from place `start` on, a line each, into the columns as far as they fit.
-fn read_messages(
-    input: &[u8],
-    start: usize,
-    stations: &mut [u32],
-    arrivals: &mut [u32],
-    relatives: &mut [u32],
-    lengths: &mut [u32],
-) -> Messages
-    requires { start ≤ length input.now }
-    ensures { MessagesRead (from 10 input.now start) stations.old arrivals.old
-        relatives.old lengths.old result stations.new arrivals.new
-        relatives.new lengths.new }
-{
-    let mut count: usize = 0;
-    let mut at = start;
-    while at < input.len() {
-        let end = end_of(input, at, LINE_FEED);
-        if end == input.len() {
-            return Messages::Bad;
-        }
-        let MessageLine::Message(message) = message_in(&input[at..end]) else {
-            return Messages::Bad;
-        };
-        put_message(
-            &mut *stations,
-            &mut *arrivals,
-            &mut *relatives,
-            &mut *lengths,
-            count,
-            message,
-        );
-        count += 1;
-        at = end + 1;
-    }
-    Messages::Count(count)
-}
-
-// The shop's line and the owners' line.
-fn read_head(input: &[u8], owners: &mut [u32]) -> Head
-    ensures { HeadRead input.now owners.old result owners.new }
-{
-    let first = end_of(input, 0, LINE_FEED);
-    if first == input.len() {
-        return Head::Bad;
-    }
-    let ShopLine::Shop(shop) = shop_in(&input[..first]) else {
-        return Head::Bad;
-    };
-    let at = first + 1;
-    let second = end_of(input, at, LINE_FEED);
-    if second == input.len() {
-        return Head::Bad;
-    }
-    let count = read_line(&input[at..second], owners);
-    if count == 0 {
-        return Head::Bad;
-    }
-    Head::Lines {
-        shop: shop,
-        owners: count,
-        next: second + 1,
-    }
-}
-
-// The whole text: the head, then a line for each message.
-pub fn read_shop(
-    input: &[u8],
-    owners: &mut [u32],
-    stations: &mut [u32],
-    arrivals: &mut [u32],
-    relatives: &mut [u32],
-    lengths: &mut [u32],
-) -> Given
-    ensures { ShopRead input.now owners.old stations.old arrivals.old
-        relatives.old lengths.old result owners.new stations.new
-        arrivals.new relatives.new lengths.new }
+// The whole text: the shop's line, the owners' line, then a line for each message.
+pub fn read_shop(input: &[u8], owners: &mut [u32], messages: &mut [Message]) -> Option<Given>
+    ensures { ShopRead input.now owners.old messages.old result owners.new messages.new }
 {
     if input.len() > TEXT_MAX {
-        return Given::Bad;
+        return None;
     }
-    let Head::Lines {
+    let mut lines = ended_lines(input)?.split(|&byte| byte == LINE_FEED);
+    let shop = shop_in(lines.next()?)?;
+    let owner_count = read_line(lines.next()?, owners)?;
+    let mut count = 0;
+    for line in lines {
+        put(messages, count, message_in(line)?);
+        count += 1;
+    }
+    Some(Given {
         shop,
-        owners: count,
-        next,
-    } = read_head(input, owners)
-    else {
-        return Given::Bad;
-    };
-    let Messages::Count(messages) = read_messages(
-        input, next, stations, arrivals, relatives, lengths,
-    ) else {
-        return Given::Bad;
-    };
-    Given::Shop {
-        shop: shop,
-        owners: count,
-        messages: messages,
-    }
+        owners: owner_count,
+        messages: count,
+    })
 }

@@ -1,11 +1,11 @@
 -- One number after the other.
-use Prim.Native.Nat.{◌+◌, ◌-◌}
-use lib.ListN.{length}
-use Rattle.reading.proofs.LineLaws.{SoFar}
+use Rattle.std.proofs.Common.{map}
+use Rattle.numbers.specs.Decimal.{is_number, value_of}
+use Rattle.reading.proofs.ListLaws.{SoFar}
 use Rattle.reading.proofs.read_line.Given as goal
 
-abbrev pub invariant-loop-at : goal.invariant-loop-at
-invariant-loop-at l = SoFar l.line l.initial.fields l.count l.at l.fields
-
-abbrev pub decreases-loop-at : goal.decreases-loop-at
-decreases-loop-at l = length l.line + 1 - l.at
+abbrev pub invariant-loop-part : goal.invariant-loop-part
+invariant-loop-part l =
+    (goal.iterator-loop-part).can_next l.part-iterator ×
+    (goal.iterator-loop-part).is_finite l.part-iterator ×
+    SoFar is_number value_of l.initial.fields (map (λ p. p.now) l.yielded) l.count l.fields
