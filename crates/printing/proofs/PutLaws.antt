@@ -25,14 +25,11 @@ put_then {d} {d₁} {d₂} {at} {n} {k} {b} {c} p q room =
       wrote = q.wrote ∙ ap (λ (x : List ℕ). over x n c) p.wrote ∙ ap (λ (x : ℕ). over (over d at b) x c) p.next ∙ over_over d at b c (omega (arith, p.next, q.next));
     }
 
--- the same text under another name
-pub put_as : {d d' : List ℕ} {at n : ℕ} {b c : List ℕ} → b ≡ c → Put d at b n d' → Put d at c n d'
-put_as {d} {d'} {at} {n} e p = subst (λ (x : List ℕ). Put d at x n d') e p
-
 -- the same of a text that grows
 pub grown_then : {t u v : Text} {b c : List ℕ} → Grown t b u → Grown u c v → Grown t (b ++ c) v
 grown_then p q = record { same = q.same ∙ p.same; room = q.room ∙ p.room; fits = omega (arith, q.fits, p.room); put = put_then p.put q.put (omega (arith, q.fits, p.room)) }
 
+-- the same text under another name
 pub grown_as : {t u : Text} {b c : List ℕ} → b ≡ c → Grown t b u → Grown t c u
 grown_as {t} {u} e p = subst (λ (x : List ℕ). Grown t x u) e p
 
