@@ -9,7 +9,7 @@ use native.Mathlib.Numerals.{add-one}
 use native.Mathlib.Omega.{arith}
 use lib.Dec.{eqb}
 use lib.ListN.{length, get_or, length-append}
-use borrow.Author.Tests.{eq-eqb, ne_eqb, eqb-true, eqb-false}
+use borrow.Author.Tests.{eqb-true, eqb-false}
 use Rattle.messages.specs.declared.Message.{Message}
 use Rattle.messages.specs.Message.{none, blank, deadline_of, waits, first_message}
 use Rattle.messages.proofs.ListLaws.{first_numbered, first_waits}
@@ -81,25 +81,6 @@ entry_few S table ms σ s i =
     (λ e. omega (arith, ap length e))
     (λ h. omega (arith, ap length h.0))
     (entry_cases S table ms σ s i)
-
--- the tally with a station, as the code has it: i is the station's first message, m its record, d its deadline, r whether it may enter
-module _ (S : Shop) (table : List ℕ) (ms : List Message) (σ : State) (s : ℕ) (t : Tally) (i : ℕ) (is : i ≡ first_message ms σ.slot s) where
-  -- by what the entry of i is
-  counted_by : (l : List ℕ) → entry S table ms σ s i ≡ l → counted t (entry S table ms σ s (first_message ms σ.slot s)) ≡ counted t l
-  counted_by l e = ap (λ (k : ℕ). counted t (entry S table ms σ s k)) (sym is) ∙ ap (counted t) e
-
-  pub counted_none : i ≡ none → t ≡ counted t (entry S table ms σ s (first_message ms σ.slot s))
-  counted_none e = sym (counted_by [] (entry_by S table ms σ s i true _ (eq-eqb i none e) refl))
-
-  module _ (some : i ≡ none → ⊥) (m : Message) (d : ℕ) (r : Bool) (at : m ≡ get_or ms i blank) (due : d ≡ deadline_of m) (may : r ≡ enters S table σ s d) where
-    entry_first : (b : Bool) → r ≡ b → entry S table ms σ s i ≡ one_if b i
-    entry_first b e = entry_by S table ms σ s i false b (ne_eqb i none some) (ap (enters S table σ s) (sym (due ∙ ap deadline_of at)) ∙ sym may ∙ e)
-
-    pub counted_in : r ≡ true → record { count = t.count + 1; message = i } ≡ counted t (entry S table ms σ s (first_message ms σ.slot s))
-    counted_in e = sym (counted_by (i ∷ []) (entry_first true e))
-
-    pub counted_out : r ≡ false → t ≡ counted t (entry S table ms σ s (first_message ms σ.slot s))
-    counted_out e = sym (counted_by [] (entry_first false e))
 
 -- ---- all stations
 

@@ -1,2 +1,2 @@
-pub mod EnterLaws
+pub mod OwnLaws
 pub mod ContendLaws

@@ -1,27 +1,28 @@
 -- The tally so far is that of the stations looked at.
-use Rattle.std.proofs.Common.{arith}
-use Rattle.messages.specs.Lists.{listed}
+use Rattle.std.proofs.Common.{◌∙◌, ap, arith}
+use Rattle.contention.specs.Contenders.{counted}
 use Rattle.contention.proofs.ContendLaws.{tally_start, tally_next, tally_few}
 use Rattle.contention.proofs.contenders_of.Goals as goal
+use Rattle.contention.proofs.contenders_of.Goals.{in-Some, in_default}
 
 pub loop-station-init : goal.loop-station-init
 loop-station-init c =
     let s = c.args in
-    (omega arith, tally_start s.shop s.table.now (listed s.stations.now s.arrivals.now s.relatives.now s.lengths.now s.sent.now) s.state)
+    tally_start s.shop s.table.now s.list.now s.state
 
-pub with_station-tally-requires : goal.with_station-tally-requires
-with_station-tally-requires c =
-    let p = c.requires in
+pub overflow_add-tally : goal.overflow_add-tally
+overflow_add-tally c =
     let s = c.args in
     let l = c.loop-station in
-    let few = tally_few s.shop s.table.now (listed s.stations.now s.arrivals.now s.relatives.now s.lengths.now s.sent.now) s.state l.station l.tally l.invariant.1 in
-    (p.0, p.1, p.2, omega (arith, p.0.sound.stations))
+    let few = tally_few s.shop s.table.now s.list.now s.state l.station l.tally l.invariant in
+    omega (arith, c.requires.0.sound.stations)
 
 pub loop-station-preserved : goal.loop-station-preserved
 loop-station-preserved c =
     let s = c.args in
-    let l = c.loop-station in (
-      omega arith,
-      tally_next s.shop s.table.now (listed s.stations.now s.arrivals.now s.relatives.now s.lengths.now s.sent.now) s.state
-          l.station l.tally c.with_station-tally.result l.invariant.1 c.with_station-tally.ensures,
-    )
+    let l = c.loop-station in
+    let next = tally_next s.shop s.table.now s.list.now s.state l.station l.tally c.match-entry_of.tally l.invariant in
+    elim c.match-entry_of.branch [
+      | in-Some w ↦ next (w.tally-is ∙ ap (counted l.tally) w.in-Some.ensures)
+      | in_default w ↦ next (w.tally-is ∙ ap (counted l.tally) w.in_default.ensures)
+    ]
