@@ -2,6 +2,5 @@ pub mod CountLaws
 pub mod StepLaws
 pub mod RunLaws
 pub mod LoopLaws
-pub mod PromiseLaws
 pub mod BudgetLaws
 pub mod KeptLaws

@@ -7,7 +7,7 @@ use native.Mathlib.Omega.{arith}
 use lib.ListN.{length, length-append}
 use Rattle.rows.specs.declared.Row.{Row}
 use Rattle.rows.specs.Log.{over, row_bytes, log_bytes}
-use Rattle.rows.proofs.LogLaws.{log_none, log_one, log_then}
+use Rattle.rows.proofs.LogLaws.{log_one, log_then}
 use Rattle.trees.specs.Search.{lead}
 use Rattle.messages.specs.Message.{all_sent}
 use Rattle.phases.specs.declared.Shop.{Shop}
@@ -76,35 +76,26 @@ pub record Running (S : Shop) (table : List ℕ) (W₀ : World) (budget : ℕ) (
   pub logged : log ≡ over log₀ 0 (log_bytes rows)
   pub ahead : (k : ℕ) → events + k ≡ budget → run S table budget W₀ ≡ lead rows (run S table k W)
 
-module _ (S : Shop) (table : List ℕ) (W₀ : World) (budget : ℕ) (log₀ : List ℕ) where
-  pub running_start : Running S table W₀ budget log₀ W₀ 0 log₀
-  running_start = record {
-    rows = [];
-    counted = refl;
-    logged = log_none log₀ 0;
-    ahead = λ k e. let same : budget ≡ k = omega arith in ap (λ (n : ℕ). run S table n W₀) same;
-  }
+module _ (S : Shop) (table : List ℕ) (W₀ : World) (budget : ℕ) (log₀ : List ℕ) (W : World) (events : ℕ) (log : List ℕ) (r : Running S table W₀ budget log₀ W events log) where
+  pub running_next : all_sent W.messages ≡ false → events < budget → 16 * budget ≤ length log₀ → (log' : List ℕ)
+      → log' ≡ over log (16 * events) (row_bytes (event_in S table W).row) → Running S table W₀ budget log₀ (world_after (event_in S table W)) (events + 1) log'
+  running_next unsent more room log' w =
+      let row : Row = (event_in S table W).row in
+      record {
+        rows = r.rows ++ (row ∷ []);
+        counted = omega (arith, r.counted, length-append r.rows (row ∷ []));
+        logged = log_then log₀ log log' 0 events r.rows (row ∷ []) (omega (arith, r.counted)) (omega arith) r.logged (log_one log log' (16 * events) row w);
+        ahead = λ k e.
+            r.ahead (suc k) (omega arith) ∙ ap (lead r.rows) (run_more S table k W unsent)
+            ∙ ap (λ (l : List Row). (l, (run S table k (world_after (event_in S table W))).1)) (sym (append_assoc r.rows (row ∷ []) (run S table k (world_after (event_in S table W))).0));
+      }
 
-  module _ (W : World) (events : ℕ) (log : List ℕ) (r : Running S table W₀ budget log₀ W events log) where
-    pub running_next : all_sent W.messages ≡ false → events < budget → 16 * budget ≤ length log₀ → (log' : List ℕ)
-        → log' ≡ over log (16 * events) (row_bytes (event_in S table W).row) → Running S table W₀ budget log₀ (world_after (event_in S table W)) (events + 1) log'
-    running_next unsent more room log' w =
-        let row : Row = (event_in S table W).row in
-        record {
-          rows = r.rows ++ (row ∷ []);
-          counted = omega (arith, r.counted, length-append r.rows (row ∷ []));
-          logged = log_then log₀ log log' 0 events r.rows (row ∷ []) (omega (arith, r.counted)) (omega arith) r.logged (log_one log log' (16 * events) row w);
-          ahead = λ k e.
-              r.ahead (suc k) (omega arith) ∙ ap (lead r.rows) (run_more S table k W unsent)
-              ∙ ap (λ (l : List Row). (l, (run S table k (world_after (event_in S table W))).1)) (sym (append_assoc r.rows (row ∷ []) (run S table k (world_after (event_in S table W))).0));
-        }
+  -- the run ends here
+  ends : (k : ℕ) → events + k ≡ budget → run S table k W ≡ ([], W) → run S table budget W₀ ≡ (r.rows, W)
+  ends k e f = r.ahead k e ∙ ap (lead r.rows) f ∙ ap (λ (l : List Row). (l, W)) (append-nil r.rows)
 
-    -- the run ends here
-    ends : (k : ℕ) → events + k ≡ budget → run S table k W ≡ ([], W) → run S table budget W₀ ≡ (r.rows, W)
-    ends k e f = r.ahead k e ∙ ap (lead r.rows) f ∙ ap (λ (l : List Row). (l, W)) (append-nil r.rows)
+  pub running_done : events ≤ budget → all_sent W.messages ≡ true → run S table budget W₀ ≡ (r.rows, W)
+  running_done h e = ends (budget - events) (omega arith) (run_done S table (budget - events) W e)
 
-    pub running_done : events ≤ budget → all_sent W.messages ≡ true → run S table budget W₀ ≡ (r.rows, W)
-    running_done h e = ends (budget - events) (omega arith) (run_done S table (budget - events) W e)
-
-    pub running_spent : events ≡ budget → run S table budget W₀ ≡ (r.rows, W)
-    running_spent e = ends 0 (omega arith) refl
+  pub running_spent : events ≡ budget → run S table budget W₀ ≡ (r.rows, W)
+  running_spent e = ends 0 (omega arith) refl

@@ -9,7 +9,7 @@
 --   empty_searches      two far deadlines: 96 empty time searches before a message enters
 use Rattle.std.specs.Prelude.{◌≡◌, refl, true, List, [], ◌∷◌, map, ℕ, zero, suc, replicate, drop}
 use Rattle.std.proofs.Common.{sym}
-use Rattle.refusals.specs.declared.Verdict.TheVariants.{Granted}
+use Rattle.refusals.specs.Numbers.{granted}
 use Rattle.rows.proofs.LogLaws.{log_none}
 use Rattle.rows.specs.declared.Row.{Row}
 use Rattle.rows.specs.declared.Phase.{Phase}
@@ -78,7 +78,7 @@ unfolding better first_among owns entry contenders_below
 program_answer = (refl, refl)
 
 -- the log stays as it was, whatever it held
-pub no_messages : (log : List ℕ) → (closing (ran_of shop owners [] 4096) ≡ record { refusal = 0; done = true; events = 0; slot = 0; sent = 0; late = 0 }) × (log_by Granted (ran_of shop owners [] 4096) log ≡ log)
+pub no_messages : (log : List ℕ) → (closing (ran_of shop owners [] 4096) ≡ record { refusal = 0; done = true; events = 0; slot = 0; sent = 0; late = 0 }) × (log_by granted (ran_of shop owners [] 4096) log ≡ log)
 no_messages log = (refl, sym (log_none log 0))
 
 -- both deadlines 1,000, at slot 0

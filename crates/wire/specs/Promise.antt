@@ -1,21 +1,30 @@
 -- What a run promises, whatever numbers and lists it is given.
 --
---   RunPromise ..     the reading, the slots of sending and the whole log at exit are the definition's
+--   ListPromise ..    over a list of messages: the reading, the whole list and the whole log at exit are the definition's
+--   RunPromise ..     over a slice for each field: the reading, the slots of sending and the whole log are
 --   reading_tells     the reading tells the answer
 --   one_result        two results that the promise allows for one input are equal
-use Rattle.std.specs.Prelude.{◌≡◌, true, false, List, ℕ, length}
+use Rattle.std.specs.Prelude.{◌≡◌, Bool, true, false, List, ℕ, length, Result, Ok, Err}
 use Rattle.std.proofs.Common.{sym, ap, ◌∙◌, arith}
+use Rattle.refusals.specs.declared.Refusal.{Refusal}
 use Rattle.refusals.proofs.Verdicts.{number_tells, number_some}
+use Rattle.messages.specs.declared.Message.{Message}
 use Rattle.messages.specs.Lists.{listed}
 use Rattle.phases.specs.declared.Shop.{Shop}
 use Rattle.inputs.specs.Inputs.{same_lengths, run_verdict}
 use Rattle.wire.specs.declared.Figures.{Figures}
 use Rattle.wire.specs.declared.Outcome.{Outcome}
-use Rattle.wire.specs.declared.Outcome.TheVariants.{Done, Spent, Refused}
-use Rattle.wire.specs.Answer.{Reading, reading_of, reading_by, marks_by, log_by, ran_of}
+use Rattle.wire.specs.declared.Outcome.TheVariants.{Done, Spent}
+use Rattle.wire.specs.Answer.{Reading, ended, reading_of, reading_by, messages_by, marks_by, log_by, ran_of}
 
 -- each part an equation with a definition: by the verdict on the inputs, of the run that they make
-pub record RunPromise (S : Shop) (owners stations arrivals relatives lengths sent log : List ℕ) (budget : ℕ) (answer : Outcome) (sent' log' : List ℕ) : Type 0 where
+pub record ListPromise (S : Shop) (owners : List ℕ) (whole : Bool) (ms : List Message) (log : List ℕ) (budget : ℕ) (answer : Result Outcome Refusal) (ms' : List Message) (log' : List ℕ) : Type 0 where
+  pub read : reading_of answer ≡ reading_by (run_verdict S owners whole ms budget (length log)) (ran_of S owners ms budget)
+  pub left : ms' ≡ messages_by (run_verdict S owners whole ms budget (length log)) (ran_of S owners ms budget) ms
+  pub logged : log' ≡ log_by (run_verdict S owners whole ms budget (length log)) (ran_of S owners ms budget) log
+
+-- the list comes whole where the slices are of one length
+pub record RunPromise (S : Shop) (owners stations arrivals relatives lengths sent log : List ℕ) (budget : ℕ) (answer : Result Outcome Refusal) (sent' log' : List ℕ) : Type 0 where
   pub read : reading_of answer ≡ reading_by
       (run_verdict S owners (same_lengths stations arrivals relatives lengths sent) (listed stations arrivals relatives lengths sent) budget (length log))
       (ran_of S owners (listed stations arrivals relatives lengths sent) budget)
@@ -37,22 +46,25 @@ same_figures f g a b c d =
     ∙ ap (λ (x : ℕ). made g.events g.slot x f.late) c
     ∙ ap (λ (x : ℕ). made g.events g.slot g.sent x) d
 
+-- the readings of two runs that ended tell their figures
+same_ended : (f g : Figures) (a b : Bool) → ended a f ≡ ended b g → f ≡ g
+same_ended f g a b e =
+    same_figures f g (ap (λ (r : Reading). r.events) e) (ap (λ (r : Reading). r.slot) e) (ap (λ (r : Reading). r.sent) e) (ap (λ (r : Reading). r.late) e)
+
 -- the reading tells the answer
-pub reading_tells : (a b : Outcome) → reading_of a ≡ reading_of b → a ≡ b
-reading_tells (Done f) (Done g) e =
-    ap Done (same_figures f g (ap (λ (r : Reading). r.events) e) (ap (λ (r : Reading). r.slot) e) (ap (λ (r : Reading). r.sent) e) (ap (λ (r : Reading). r.late) e))
-reading_tells (Done f) (Spent g) e = let z : true ≡ false = ap (λ (r : Reading). r.done) e in let y : ◌≡◌ {A = ℕ} 0 1 = cc in absurd (omega arith)
-reading_tells (Done f) (Refused k) e = absurd (omega (arith, number_some k, ap (λ (r : Reading). r.refusal) e))
-reading_tells (Spent f) (Done g) e = let z : false ≡ true = ap (λ (r : Reading). r.done) e in let y : ◌≡◌ {A = ℕ} 0 1 = cc in absurd (omega arith)
-reading_tells (Spent f) (Spent g) e =
-    ap Spent (same_figures f g (ap (λ (r : Reading). r.events) e) (ap (λ (r : Reading). r.slot) e) (ap (λ (r : Reading). r.sent) e) (ap (λ (r : Reading). r.late) e))
-reading_tells (Spent f) (Refused k) e = absurd (omega (arith, number_some k, ap (λ (r : Reading). r.refusal) e))
-reading_tells (Refused j) (Done g) e = absurd (omega (arith, number_some j, ap (λ (r : Reading). r.refusal) e))
-reading_tells (Refused j) (Spent g) e = absurd (omega (arith, number_some j, ap (λ (r : Reading). r.refusal) e))
-reading_tells (Refused j) (Refused k) e = ap Refused (number_tells j k (ap (λ (r : Reading). r.refusal) e))
+pub reading_tells : (a b : Result Outcome Refusal) → reading_of a ≡ reading_of b → a ≡ b
+reading_tells (Ok (Done f)) (Ok (Done g)) e = ap (λ (x : Figures). Ok (Done x)) (same_ended f g true true e)
+reading_tells (Ok (Done f)) (Ok (Spent g)) e = let z : true ≡ false = ap (λ (r : Reading). r.done) e in let y : ◌≡◌ {A = ℕ} 0 1 = cc in absurd (omega arith)
+reading_tells (Ok (Spent f)) (Ok (Done g)) e = let z : false ≡ true = ap (λ (r : Reading). r.done) e in let y : ◌≡◌ {A = ℕ} 0 1 = cc in absurd (omega arith)
+reading_tells (Ok (Spent f)) (Ok (Spent g)) e = ap (λ (x : Figures). Ok (Spent x)) (same_ended f g false false e)
+reading_tells (Ok (Done f)) (Err k) e = absurd (omega (arith, number_some k, ap (λ (r : Reading). r.refusal) e))
+reading_tells (Ok (Spent f)) (Err k) e = absurd (omega (arith, number_some k, ap (λ (r : Reading). r.refusal) e))
+reading_tells (Err j) (Ok (Done g)) e = absurd (omega (arith, number_some j, ap (λ (r : Reading). r.refusal) e))
+reading_tells (Err j) (Ok (Spent g)) e = absurd (omega (arith, number_some j, ap (λ (r : Reading). r.refusal) e))
+reading_tells (Err j) (Err k) e = ap (λ (x : Refusal). Err x) (number_tells j k (ap (λ (r : Reading). r.refusal) e))
 
 -- one result for each input
-pub one_result : (S : Shop) (owners stations arrivals relatives lengths sent log : List ℕ) (budget : ℕ) (a b : Outcome) (sent₁ sent₂ log₁ log₂ : List ℕ)
+pub one_result : (S : Shop) (owners stations arrivals relatives lengths sent log : List ℕ) (budget : ℕ) (a b : Result Outcome Refusal) (sent₁ sent₂ log₁ log₂ : List ℕ)
     → RunPromise S owners stations arrivals relatives lengths sent log budget a sent₁ log₁
     → RunPromise S owners stations arrivals relatives lengths sent log budget b sent₂ log₂ → (a ≡ b) × (sent₁ ≡ sent₂) × (log₁ ≡ log₂)
 one_result S owners stations arrivals relatives lengths sent log budget a b sent₁ sent₂ log₁ log₂ p q =

@@ -2,11 +2,14 @@
 --
 --   World               the state and the messages
 --   start ms            slot 0, reference time 0, free, every message unsent
---   stepped S table W   the world after the event in W
+--   event_in S table W, world_after E   the event in the world W, and the world after it
 --   run S table k W     at most k events from W on: their rows, and the world after them
+--   was_sent m          m was sent; is_sent is 1 for it
 --   sent_count ms       messages sent
---   late_count ms       sent messages whose end lies after their absolute deadline
-use Rattle.std.specs.Prelude.{true, false, not, ◌&&◌, List, [], ◌∷◌, ℕ, zero, suc, ◌+◌, ltb, eqb}
+--   was_late m          m was sent, and its end lies after its absolute deadline; is_late is 1 for it
+--   late_count ms       messages sent and late
+use Rattle.std.specs.Prelude.{Bool, true, false, not, ◌&&◌, List, [], ◌∷◌, ℕ, zero, suc, ◌+◌, ltb, eqb, cond}
+use Rattle.std.specs.List.{sum_by}
 use Rattle.rows.specs.declared.Row.{Row}
 use Rattle.messages.specs.declared.Message.{Message}
 use Rattle.messages.specs.Message.{unsent, deadline_of, fresh, all_sent}
@@ -42,18 +45,24 @@ run S table (suc k) W =
       | false ↦ let E = event_in S table W in let rest = run S table k (world_after E) in (E.row ∷ rest.0, rest.1)
     ]
 
--- sent messages
+-- sent
+abbrev pub was_sent : Message → Bool
+was_sent m = not (eqb m.sent unsent)
+
+-- 1 for each
 abbrev pub is_sent : Message → ℕ
-is_sent m = elim (eqb m.sent unsent) [ true ↦ 0 | false ↦ 1 ]
+is_sent m = cond (was_sent m) 1 0
 
 abbrev pub sent_count : List Message → ℕ
-sent_count [] = 0
-sent_count (m ∷ ms) = is_sent m + sent_count ms
+sent_count ms = sum_by is_sent ms
 
 -- sent, and over only after its deadline
+abbrev pub was_late : Message → Bool
+was_late m = was_sent m && ltb (deadline_of m) (m.sent + m.length)
+
+-- 1 for each
 abbrev pub is_late : Message → ℕ
-is_late m = elim (not (eqb m.sent unsent) && ltb (deadline_of m) (m.sent + m.length)) [ true ↦ 1 | false ↦ 0 ]
+is_late m = cond (was_late m) 1 0
 
 abbrev pub late_count : List Message → ℕ
-late_count [] = 0
-late_count (m ∷ ms) = is_late m + late_count ms
+late_count ms = sum_by is_late ms

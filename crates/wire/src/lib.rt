@@ -1,20 +1,20 @@
-// Wire: the run of a shop, slot by slot, on plain numbers and lent slices (docs/RULES.md, section 10).
-// `run` is the public call: it takes whatever it is given and refuses what is bad.
+// Wire: the run of a shop, slot by slot, on plain numbers and a lent list of messages (docs/RULES.md, section 10).
+// `run` is the call: it takes whatever it is given and refuses what is bad.
 // Uses refusals, rows, trees, messages, phases, contention, inputs and events.
 #![tactic(auto)]
 
-ghost use Rattle.std.specs.Prelude.{◌≡◌, ◌*◌, ◌≤◌, length};
-ghost use Rattle.messages.specs.Lists.{listed, SameLength, TimedList, Timed};
-ghost use Rattle.wire.specs.Run.{is_sent, is_late, sent_count, late_count};
-ghost use Rattle.wire.specs.Promise.{RunPromise};
-ghost use Rattle.wire.specs.Work.{RunReady, Ran, outcome_of};
+ghost use Rattle.std.specs.Prelude.{◌≡◌, ◌&&◌, ltb};
+ghost use Rattle.messages.specs.Lists.{Runnable, Timed};
+ghost use Rattle.wire.specs.Run.{was_sent, was_late, sent_count, late_count};
+ghost use Rattle.wire.specs.Promise.{ListPromise};
+ghost use Rattle.wire.specs.Work.{RunReady, Ran};
 
 use messages::Message;
 use phases::{Shop, Standing, State};
-use refusals::{Refusal, Verdict};
+use refusals::Refusal;
 
 // The closing figures: events, present slot, messages sent, and how many of them ended late.
-#[derive(Clone, Copy)]
+#[derive(Clone, Copy, Debug, PartialEq, Eq)]
 pub struct Figures {
     pub events: u32,
     pub slot: u32,
@@ -22,98 +22,56 @@ pub struct Figures {
     pub late: u32,
 }
 
-// How a run ends: every message sent, or the budget spent; or the input was refused.
-#[derive(Clone, Copy)]
+// How a run ends: every message sent, or the budget spent.
+#[derive(Clone, Copy, Debug, PartialEq, Eq)]
 pub enum Outcome {
     Done(Figures),
     Spent(Figures),
-    Refused(Refusal),
 }
 
-// Messages sent, and how many of them ended late.
-#[derive(Clone, Copy)]
-struct Counts {
-    sent: u32,
-    late: u32,
-}
-
-// Where a run stopped.
-#[derive(Clone, Copy)]
-struct Ended {
-    state: State,
-    events: u32,
-}
-
-// 1 for a message that was sent.
-fn is_sent(message: Message) -> u32
-    ensures { (result ≡ is_sent message) × (result ≤ 1) }
+// Whether the message was sent.
+fn was_sent(message: Message) -> bool
+    ensures { result ≡ was_sent message }
 {
-    if message.sent == messages::UNSENT {
-        0
-    } else {
-        1
-    }
+    message.sent != messages::UNSENT
 }
 
-// 1 for a message that was sent and ended after its absolute deadline.
-fn is_late(message: Message) -> u32
+// Whether the message was sent and ended after its absolute deadline.
+fn was_late(message: Message) -> bool
     requires { Timed message }
-    ensures { (result ≡ is_late message) × (result ≤ 1) }
+    ensures { result ≡ was_late message }
 {
-    if message.sent == messages::UNSENT {
-        return 0;
-    }
-    let end = (message.sent as u64) + (message.length as u64);
-    let deadline = messages::deadline(message) as u64;
-    if deadline < end { 1 } else { 0 }
+    let end = u64::from(message.sent) + u64::from(message.length);
+    was_sent(message) && u64::from(message.deadline()) < end
 }
 
-// The closing counts of the messages.
-fn counts_of(
-    stations: &[u32],
-    arrivals: &[u32],
-    relatives: &[u32],
-    lengths: &[u32],
-    sent: &[u32],
-) -> Counts
-    requires { SameLength stations.now arrivals.now relatives.now lengths.now sent.now
-        × TimedList (listed stations.now arrivals.now relatives.now lengths.now sent.now) }
-    ensures { (result.sent ≡ sent_count (listed stations.now arrivals.now relatives.now
-        lengths.now sent.now))
-        × (result.late ≡ late_count (listed stations.now arrivals.now relatives.now
-        lengths.now sent.now)) }
+// How many messages were sent.
+fn sent_count(list: &[Message]) -> u32
+    requires { Runnable list.now }
+    ensures { result ≡ sent_count list.now }
 {
-    let mut marked: u32 = 0;
-    let mut late: u32 = 0;
-    let mut i: usize = 0;
-    while i < stations.len() {
-        let message = messages::message_at(stations, arrivals, relatives, lengths, sent, i);
-        marked += is_sent(message);
-        late += is_late(message);
-        i += 1;
-    }
-    Counts {
-        sent: marked,
-        late: late,
-    }
+    list.iter().filter(|message| was_sent(**message)).count() as u32
 }
 
-// The events of a run, each written as a row; it stops where every message is sent or the budget is spent.
+// How many messages were sent and ended late.
+fn late_count(list: &[Message]) -> u32
+    requires { Runnable list.now }
+    ensures { result ≡ late_count list.now }
+{
+    list.iter().filter(|message| was_late(**message)).count() as u32
+}
+
+// The events of a run, each written as a row: how many, and the slot after them. It stops where every message is
+// sent or the budget is spent.
 fn run_events(
     shop: Shop,
-    table: &[u8],
-    stations: &[u32],
-    arrivals: &[u32],
-    relatives: &[u32],
-    lengths: &[u32],
-    sent: &mut [u32],
+    table: &[u8; 1024],
+    list: &mut [Message],
     log: &mut [u8],
     budget: u32,
-) -> Ended
-    requires { RunReady shop table.now stations.now arrivals.now relatives.now lengths.now sent.old
-        log.old budget }
-    ensures { Ran shop table.now stations.now arrivals.now relatives.now
-        lengths.now sent.old log.old budget result sent.new log.new }
+) -> (u32, u32)
+    requires { RunReady shop list.old log.old budget }
+    ensures { Ran shop table.now list.old log.old budget result.0 result.1 list.new log.new }
 {
     let mut state = State {
         reference: 0,
@@ -121,87 +79,44 @@ fn run_events(
         sent: false,
         standing: Standing::Free,
     };
-    let mut events: u32 = 0;
-    while events < budget {
-        if messages::all_sent(&*sent) {
-            return Ended {
-                state: state,
-                events: events,
-            };
+    for events in 0..budget {
+        if messages::all_sent(list) {
+            return (events, state.slot);
         }
-        let tally = contention::contenders_of(
-            shop, table, stations, arrivals, relatives, lengths, &*sent, state,
-        );
-        let step = events::one_event(shop, lengths, &mut *sent, tally, state);
-        let row = step.row;
-        rows::put_row(&mut *log, events as usize, row);
+        let tally = contention::contenders_of(shop, table, list, state);
+        let step = events::one_event(shop, list, tally, state);
+        rows::put_row(log, events as usize, step.row);
         state = step.state;
-        events += 1;
     }
-    Ended {
-        state: state,
-        events: events,
-    }
-}
-
-// Done where no unsent message remains, whatever is left of the budget.
-fn outcome_of(done: bool, figures: Figures) -> Outcome
-    ensures { result ≡ outcome_of done figures }
-{
-    if done {
-        Outcome::Done(figures)
-    } else {
-        Outcome::Spent(figures)
-    }
+    (budget, state.slot)
 }
 
 // A run of the shop: a row for each event in the log, the slot of sending of each message that was sent, and the
-// closing figures; or a refusal, and every lent slice as it came.
+// closing figures; or a refusal, and list and log as they came. `whole` is whether the list of messages came whole.
 pub fn run(
     shop: Shop,
     owners: &[u32],
-    stations: &[u32],
-    arrivals: &[u32],
-    relatives: &[u32],
-    lengths: &[u32],
-    sent: &mut [u32],
+    whole: bool,
+    list: &mut [Message],
     log: &mut [u8],
     budget: u32,
-) -> Outcome
-    ensures { RunPromise shop owners.now stations.now arrivals.now
-        relatives.now lengths.now sent.old log.old budget result
-        sent.new log.new }
+) -> Result<Outcome, Refusal>
+    ensures { ListPromise shop owners.now whole list.old log.old budget result list.new log.new }
 {
-    let verdict = inputs::run_verdict(
-        shop,
-        owners,
-        stations,
-        arrivals,
-        relatives,
-        lengths,
-        &*sent,
-        budget,
-        log.len(),
-    );
-    match verdict {
-        Verdict::Refused(refusal) => Outcome::Refused(refusal),
-        Verdict::Granted => {
-            let table = inputs::owner_table(owners);
-            messages::clear_sent(&mut *sent);
-            let ended = run_events(
-                shop, &table, stations, arrivals, relatives, lengths, &mut *sent, &mut *log, budget,
-            );
-            let counts = counts_of(stations, arrivals, relatives, lengths, &*sent);
-            let state = ended.state;
-            let events = ended.events;
-            let figures = Figures {
-                events: events,
-                slot: state.slot,
-                sent: counts.sent,
-                late: counts.late,
-            };
-            let done = messages::all_sent(&*sent);
-            outcome_of(done, figures)
-        }
-    }
+    inputs::run_verdict(shop, owners, whole, list, budget, log.len())?;
+    let table = inputs::owner_table(owners);
+    messages::clear_sent(list);
+    let (events, slot) = run_events(shop, &table, list, log, budget);
+    let figures = Figures {
+        events,
+        slot,
+        sent: sent_count(list),
+        late: late_count(list),
+    };
+    let done = messages::all_sent(list);
+    Ok(if done {
+        Outcome::Done(figures)
+    } else {
+        Outcome::Spent(figures)
+    })
 }
