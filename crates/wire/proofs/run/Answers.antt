@@ -1,5 +1,5 @@
 -- A granted run clears the marks and makes its events.
-use Rattle.std.proofs.Common.{length, sym, ◌∙◌}
+use Rattle.std.proofs.Common.{sym, ◌∙◌, arith}
 use Rattle.messages.proofs.ListLaws.{runnable_fresh}
 use Rattle.inputs.proofs.GrantLaws.{allowed}
 use Rattle.wire.proofs.run.Goals as goal
@@ -7,5 +7,5 @@ use Rattle.wire.proofs.run.Goals as goal
 pub run_events-events-requires : goal.run_events-events-requires
 run_events-events-requires c =
     let s = c.args in
-    let ok = allowed s.shop s.owners.now s.whole s.list.now s.budget (length s.log.now) (sym c.run_verdict.ensures ∙ c.in_ok-run_verdict.was) in
-    record { sound = ok.sound; runnable = rw c.clear_sent.ensures (runnable_fresh s.list.now ok.runnable); few = ok.few; room = ok.room }
+    let ok = allowed s.shop s.owners.now s.whole s.list.now s.budget _ (sym c.run_verdict.ensures ∙ c.in_ok-run_verdict.was) in
+    record { sound = ok.sound; runnable = rw c.clear_sent.ensures (runnable_fresh s.list.now ok.runnable); few = ok.few; room = omega (arith, ok.room) }
