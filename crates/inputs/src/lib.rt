@@ -3,7 +3,7 @@
 // Uses refusals, rows, trees, classes, messages and phases.
 #![tactic(auto)]
 
-ghost use Rattle.std.specs.Prelude.{◌≡◌, ◌&&◌, ◌≤◌, length};
+ghost use Rattle.std.specs.Prelude.{◌≡◌, ◌≤◌, length};
 ghost use Rattle.inputs.specs.Inputs.{class_numbers, is_owner, are_owners, holds, all_own, table_fits};
 ghost use Rattle.inputs.specs.Inputs.{message_fits, all_fit, messages_fit, shop_verdict, budget_verdict};
 ghost use Rattle.inputs.specs.Inputs.{run_verdict, table_of, SmallOwners};

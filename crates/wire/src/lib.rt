@@ -3,7 +3,7 @@
 // Uses refusals, rows, trees, messages, phases, contention, inputs and events.
 #![tactic(auto)]
 
-ghost use Rattle.std.specs.Prelude.{◌≡◌, ◌&&◌, ltb};
+ghost use Rattle.std.specs.Prelude.{◌≡◌};
 ghost use Rattle.messages.specs.Lists.{Runnable, Timed};
 ghost use Rattle.wire.specs.Run.{was_sent, was_late, sent_count, late_count};
 ghost use Rattle.wire.specs.Promise.{ListPromise};
