@@ -1,6 +1,6 @@
--- One list laid over another: one element more, and all of it.
+-- One list laid over another: one element more, all of it, and what stands at the front.
 use mathlib.Core.Path.{◌≡◌, refl, ap}
-use mathlib.Core.List.{List, [], ◌∷◌}
+use mathlib.Core.List.{List, [], ◌∷◌, ◌++◌}
 use Prim.Native.Nat.{ℕ, zero, suc, ◌+◌, ◌<◌, ◌≤◌, min}
 use native.Mathlib.Numerals.{add-one}
 use native.Mathlib.Omega.{arith}
@@ -30,3 +30,16 @@ module _ {A : Type 0} where
   over_all [] (y ∷ ys) n h = over_nil (take n (y ∷ ys))
   over_all (x ∷ xs) (y ∷ ys) zero h = absurd (omega arith)
   over_all (x ∷ xs) (y ∷ ys) (suc n) h = ap (λ (l : List A). y ∷ l) (over_all xs ys n (omega arith))
+
+  -- one that is not longer stands at the front
+  pub take_over : (xs ys : List A) → length ys ≤ length xs → take (length ys) (laid_over xs ys) ≡ ys
+  take_over xs [] h = refl
+  take_over [] (y ∷ ys) h = absurd (omega arith)
+  take_over (x ∷ xs) (y ∷ ys) h = ap (λ (l : List A). y ∷ l) (take_over xs ys (omega arith))
+
+  -- of one that has as many in front, these alone are laid over
+  pub over_front : (xs front rest : List A) → length front ≡ length xs → laid_over xs (front ++ rest) ≡ front
+  over_front [] [] rest e = over_nil rest
+  over_front [] (y ∷ front) rest e = absurd (omega arith)
+  over_front (x ∷ xs) [] rest e = absurd (omega arith)
+  over_front (x ∷ xs) (y ∷ front) rest e = ap (λ (l : List A). y ∷ l) (over_front xs front rest (omega arith))
