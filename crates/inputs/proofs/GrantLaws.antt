@@ -1,12 +1,12 @@
 -- What a granted run may rely on.
-use mathlib.Core.Path.{◌≡◌}
-use mathlib.Core.Bool.{Bool, true, ◌&&◌}
+use mathlib.Core.Path.{◌≡◌, refl}
+use mathlib.Core.Bool.{Bool, true, false, ◌&&◌, ◌||◌}
 use mathlib.Core.List.{List, [], ◌∷◌}
 use Prim.Native.Nat.{ℕ, zero, suc, ◌*◌, ◌≤◌, ◌<◌}
 use native.Mathlib.Omega.{arith}
 use lib.Dec.{ltb, leb, eqb}
 use lib.ListN.{length, get_or}
-use borrow.Author.Tests.{leb-true, eqb-true}
+use borrow.Author.Tests.{leb-true, ltb-true, eqb-true}
 use Rattle.refusals.specs.declared.Refusal.TheVariants.{Stations, ClassNumbers, IndexTable, Messages, Budget, LogRoom}
 use Rattle.refusals.specs.Numbers.{granted, within}
 use Rattle.refusals.proofs.Verdicts.{ask_granted, then_granted, both, within_true}
@@ -14,17 +14,31 @@ use Rattle.trees.specs.Shape.{tree_verdict}
 use Rattle.trees.proofs.ShapeLaws.{grown}
 use Rattle.messages.specs.declared.Message.{Message}
 use Rattle.messages.specs.Message.{blank}
-use Rattle.messages.specs.Lists.{Timed, TimedList, Runnable}
+use Rattle.messages.specs.Lists.{Timed, TimedList, Runnable, SameLength, listed}
+use Rattle.messages.proofs.ListLaws.{length_listed}
 use Rattle.classes.specs.Class.{class_fits}
 use Rattle.classes.proofs.VerdictLaws.{fitting}
 use Rattle.phases.specs.declared.Shop.{Shop}
 use Rattle.phases.specs.Work.{Grown, Sound}
-use Rattle.inputs.specs.Inputs.{class_numbers, are_owners, table_fits, message_fits, all_fit, messages_fit, shop_verdict, run_verdict}
+use Rattle.inputs.proofs.TableLaws.{length_table}
+use Rattle.inputs.specs.Inputs.{SmallOwners, table_of, same_lengths, class_numbers, is_owner, are_owners, table_fits, message_fits, all_fit, messages_fit, shop_verdict, run_verdict}
 
--- ---- a tree, a message
+-- ---- a tree, an owner, a message
 
 granted_tree : (m t : ℕ) → tree_verdict m t ≡ granted → Grown m t
 granted_tree m t e = let g = grown m t e in record { tree = g.tree; under = g.under; height = g.height }
+
+small_owner : (z o : ℕ) → z ≤ 32 → is_owner z o ≡ true → o ≤ 255
+small_owner z o h e = go (ltb o z) refl e
+  where
+    go : (b : Bool) → ltb o z ≡ b → (b || eqb o 255) ≡ true → o ≤ 255
+    go true q f = let k : o < z = ltb-true o z q in omega arith
+    go false q f = let k : o ≡ 255 = eqb-true o 255 f in omega arith
+
+small_owners : (z : ℕ) (owners : List ℕ) → z ≤ 32 → are_owners z owners ≡ true → SmallOwners owners
+small_owners z [] h e i = omega arith
+small_owners z (o ∷ owners) h e zero = small_owner z o h (both (is_owner z o) (are_owners z owners) e).0
+small_owners z (o ∷ owners) h e (suc i) = small_owners z owners h (both (is_owner z o) (are_owners z owners) e).1 i
 
 timed_message : (z : ℕ) (m : Message) → message_fits z m ≡ true → Timed m × (1 ≤ m.length)
 timed_message z m e =
@@ -115,19 +129,48 @@ passed_sound S owners whole ms budget bytes p =
     }
 
 -- and the run may begin
-pub record Allowed (S : Shop) (ms : List Message) (budget bytes : ℕ) : Type 0 where
+pub record Allowed (S : Shop) (owners : List ℕ) (whole : Bool) (ms : List Message) (budget bytes : ℕ) : Type 0 where
   pub sound : Sound S
+  pub owners_few : length owners ≤ 1024
+  pub owners_small : SmallOwners owners
+  pub table_long : length (table_of owners) ≡ 1024
+  pub complete : whole ≡ true
   pub runnable : Runnable ms
+  pub some_budget : 1 ≤ budget
   pub few : budget ≤ 1000000
   pub room : 16 * budget ≤ bytes
 
 pub allowed : (S : Shop) (owners : List ℕ) (whole : Bool) (ms : List Message) (budget bytes : ℕ)
-    → run_verdict S owners whole ms budget bytes ≡ granted → Allowed S ms budget bytes
+    → run_verdict S owners whole ms budget bytes ≡ granted → Allowed S owners whole ms budget bytes
 allowed S owners whole ms budget bytes e =
     let p = passed S owners whole ms budget bytes e in
+    let sound = passed_sound S owners whole ms budget bytes p in
+    let fewer : length owners ≤ 1024 = omega (arith, p.index.tree.few, p.entries) in
     record {
-      sound = passed_sound S owners whole ms budget bytes p;
+      sound = sound;
+      owners_few = fewer;
+      owners_small = small_owners S.stations owners sound.stations p.owned;
+      table_long = length_table owners fewer;
+      complete = p.complete;
       runnable = record { few = p.count; timed = timed_list S.stations ms p.fit };
+      some_budget = p.some_budget;
       few = p.few;
       room = p.room;
+    }
+
+-- five slices that make a list which may be run are of one length
+pub allowed_fields : (S : Shop) (owners stations arrivals relatives lengths sent : List ℕ) (budget bytes : ℕ)
+    → run_verdict S owners (same_lengths stations arrivals relatives lengths sent) (listed stations arrivals relatives lengths sent) budget bytes ≡ granted
+    → SameLength stations arrivals relatives lengths sent
+allowed_fields S owners stations arrivals relatives lengths sent budget bytes e =
+    let p = passed S owners _ _ budget bytes e in
+    let a = both (eqb (length arrivals) (length stations)) _ p.complete in
+    let r = both (eqb (length relatives) (length stations)) _ a.1 in
+    let l = both (eqb (length lengths) (length stations)) _ r.1 in
+    record {
+      few = omega (arith, p.count, length_listed stations arrivals relatives lengths sent);
+      arrivals_too = eqb-true _ _ a.0;
+      relatives_too = eqb-true _ _ r.0;
+      lengths_too = eqb-true _ _ l.0;
+      sent_too = eqb-true _ _ l.1;
     }
