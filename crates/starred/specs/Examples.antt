@@ -5,7 +5,7 @@
 --   places rows         first leaf and width of each row
 --   examples            the starred examples, in the order of docs/RULES.md, section 7; the class is that of section 9
 --   starred             all of them hold
-use Rattle.std.specs.Prelude.{◌≡◌, refl, List, [], ◌∷◌, ◌++◌, ℕ, zero, suc, pos, negsuc}
+use Rattle.std.specs.Prelude.{◌≡◌, refl, List, [], ◌∷◌, ◌++◌, map, ℕ, zero, suc, pos, negsuc}
 use Rattle.rows.specs.declared.Row.{Row}
 use Rattle.refusals.specs.Numbers.{verdict_number}
 use Rattle.trees.specs.Search.{search_rows, cost, sent}
@@ -26,8 +26,7 @@ counts_up_to m t (suc k) = counts_up_to m t k ++ (count_of m t (suc k) ∷ [])
 
 -- where each row looked
 abbrev pub places : List Row → List (ℕ × ℕ)
-places [] = []
-places (r ∷ rows) = (r.first, r.width) ∷ places rows
+places rows = map (λ r. (r.first, r.width)) rows
 
 -- worst counts: m 2, t 4; m 4, t 4; m 3, t 9
 abbrev pub worst_counts : List (Type 0)
