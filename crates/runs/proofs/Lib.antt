@@ -1,3 +1,1 @@
-pub mod ColumnLaws
-pub mod SlotLaws
-pub mod RunLaws
+pub mod FieldLaws

@@ -1,127 +1,59 @@
-// Runs: a run over a table of records, of which the first `count` are the list (docs/RULES.md, section 10).
-// Each field is copied into a list of numbers, the run is made on these, and the slots of sending are copied back.
-// Uses refusals, rows, trees, messages, phases, contention, inputs, events and wire.
+// Runs: a run over messages that are lent field by field (docs/RULES.md, section 10).
+// The fields are copied into a table of records, the run is made on these, and the slots of sending are copied back.
+// Uses refusals, trees, messages, records, phases, inputs and wire.
 #![tactic(auto)]
 
-ghost use Rattle.std.specs.Prelude.{◌≡◌, min, ◌≤◌};
-ghost use Rattle.runs.specs.Slots.{slotted};
-ghost use Rattle.runs.specs.Work.{ColumnsOf, whole_of, TableRan};
+ghost use Rattle.std.specs.Prelude.{◌≡◌, ◌&&◌, nat_le, length};
+ghost use Rattle.inputs.specs.Inputs.{same_lengths};
+ghost use Rattle.wire.specs.Promise.{RunPromise};
 
-use messages::Message;
 use phases::Shop;
+use refusals::Refusal;
 use wire::Outcome;
 
-// The fields of a table of records, each by itself.
-#[derive(Clone, Copy)]
-struct Columns {
-    stations: [u32; 512],
-    arrivals: [u32; 512],
-    relatives: [u32; 512],
-    lengths: [u32; 512],
-    sent: [u32; 512],
-}
-
-// How the run ended, and the table with the slots of sending.
-#[derive(Clone, Copy)]
-pub struct Ran {
-    pub outcome: Outcome,
-    pub table: [Message; 512],
-}
-
-// Each field of each record.
-fn columns_of(table: [Message; 512]) -> Columns
-    ensures { ColumnsOf table result }
+// Whether the fields make a list that a run can take: at most 512 messages, and every number of each.
+fn is_whole(
+    stations: &[u32],
+    arrivals: &[u32],
+    relatives: &[u32],
+    lengths: &[u32],
+    sent: &[u32],
+) -> bool
+    ensures { result ≡ (nat_le (length stations.now) 512
+        && same_lengths stations.now arrivals.now relatives.now lengths.now sent.now) }
 {
-    let mut stations = [0u32; 512];
-    let mut arrivals = [0u32; 512];
-    let mut relatives = [0u32; 512];
-    let mut lengths = [0u32; 512];
-    let mut sent = [0u32; 512];
-    let mut i: usize = 0;
-    while i < 512 {
-        let message = table[i];
-        stations[i] = message.station;
-        arrivals[i] = message.arrival;
-        relatives[i] = message.relative;
-        lengths[i] = message.length;
-        sent[i] = message.sent;
-        i += 1;
-    }
-    Columns {
-        stations: stations,
-        arrivals: arrivals,
-        relatives: relatives,
-        lengths: lengths,
-        sent: sent,
-    }
+    let count = stations.len();
+    count <= 512
+        && arrivals.len() == count
+        && relatives.len() == count
+        && lengths.len() == count
+        && sent.len() == count
 }
 
-// The table with the slots of sending; every other field stays.
-fn with_slots(table: [Message; 512], sent: [u32; 512]) -> [Message; 512]
-    ensures { result ≡ slotted table sent }
-{
-    let mut marked = table;
-    let mut i: usize = 0;
-    while i < 512 {
-        let message = marked[i];
-        marked[i] = Message {
-            station: message.station,
-            arrival: message.arrival,
-            relative: message.relative,
-            length: message.length,
-            sent: sent[i],
-        };
-        i += 1;
-    }
-    marked
-}
-
-// As many records as the table can hold.
-fn at_most(count: usize) -> usize
-    ensures { (result ≡ min count 512) × (result ≤ 512) }
-{
-    if count < 512 { count } else { 512 }
-}
-
-// The count, or none where it is above 512: columns of unequal length are refused as too many messages are.
-fn whole(count: usize) -> usize
-    ensures { (result ≡ whole_of count) × (result ≤ 512) }
-{
-    if 512 < count { 0 } else { count }
-}
-
-// A run over the first `count` places of the table; a refusal leaves it as it came.
-pub fn run_table(
-    table: [Message; 512],
-    count: usize,
+// A run of the shop: a row for each event in the log, the slot of sending of each message that was sent, and the
+// closing figures; or a refusal, and every lent slice as it came.
+pub fn run_fields(
     shop: Shop,
     owners: &[u32],
+    stations: &[u32],
+    arrivals: &[u32],
+    relatives: &[u32],
+    lengths: &[u32],
+    sent: &mut [u32],
     log: &mut [u8],
     budget: u32,
-) -> Ran
-    ensures { TableRan shop owners.now table count log.old budget result log.new }
+) -> Result<Outcome, Refusal>
+    ensures { RunPromise shop owners.now stations.now arrivals.now
+        relatives.now lengths.now sent.old log.old budget result
+        sent.new log.new }
 {
-    let columns = columns_of(table);
-    let stations = columns.stations;
-    let arrivals = columns.arrivals;
-    let relatives = columns.relatives;
-    let lengths = columns.lengths;
-    let mut sent = columns.sent;
-    let n = at_most(count);
-    let outcome = wire::run(
-        shop,
-        owners,
-        &stations[0..n],
-        &arrivals[0..n],
-        &relatives[0..whole(count)],
-        &lengths[0..n],
-        &mut sent[0..n],
-        log,
-        budget,
-    );
-    let marked = with_slots(table, sent);
-    Ran {
-        outcome: outcome,
-        table: marked,
+    if !is_whole(stations, arrivals, relatives, lengths, sent) {
+        // No record has a part in the refusal.
+        return wire::run(shop, owners, false, &mut [], log, budget);
     }
+    let mut table = records::load(stations, arrivals, relatives, lengths, sent);
+    let list = &mut table[..stations.len()];
+    let answer = wire::run(shop, owners, true, list, log, budget);
+    records::store(sent, &table);
+    answer
 }

@@ -11,47 +11,46 @@ use native.Mathlib.Omega.{arith}
 use lib.ListN.{length, take}
 use lib.Seq.{take-append_seam}
 use Rattle.refusals.proofs.Verdicts.{number_some}
-use Rattle.refusals.specs.declared.Verdict.{Verdict}
-use Rattle.refusals.specs.declared.Verdict.TheVariants.{Granted, Refused as Denied}
+use Rattle.std.specs.Prelude.{Result, Ok, Err}
+use Rattle.refusals.specs.declared.Refusal.{Refusal}
+use Rattle.refusals.specs.Numbers.{Verdict, granted}
 use Rattle.messages.specs.declared.Message.{Message}
 use Rattle.phases.specs.declared.Shop.{Shop}
 use Rattle.inputs.specs.Inputs.{run_verdict, table_of}
 use Rattle.wire.specs.declared.Outcome.{Outcome}
-use Rattle.wire.specs.Answer.{ran_of}
-use Rattle.runs.specs.Slots.{messages_by}
+use Rattle.wire.specs.Answer.{ran_of, messages_by}
 use Rattle.messages.proofs.KeptLaws.{bare}
 use Rattle.wire.proofs.KeptLaws.{same_records}
-use Rattle.withdrawals.specs.declared.Withdrawal.{Withdrawal}
-use Rattle.withdrawals.specs.declared.Withdrawal.TheVariants.{Withdrawn}
+use Rattle.withdrawals.specs.declared.Withdrawn.{Withdrawn}
 use Rattle.withdrawals.specs.Withdrawal.{kept_of}
 use Rattle.withdrawals.specs.Answer.{withdrawal_verdict, figures_by, list_by}
 use Rattle.withdrawals.proofs.KeptLaws.{length_after}
 use Rattle.shop.specs.Promise.{WithdrawalPromise, ShopPromise}
 
 -- `bare` forgets a record's slot of sending
-pub run_keeps : (S : Shop) (owners : List ℕ) (ms : List Message) (log : List ℕ) (budget : ℕ) (answer : Outcome) (ms' : List Message) (log' : List ℕ)
+pub run_keeps : (S : Shop) (owners : List ℕ) (ms : List Message) (log : List ℕ) (budget : ℕ) (answer : Result Outcome Refusal) (ms' : List Message) (log' : List ℕ)
     → ShopPromise S owners ms log budget answer ms' log' → map bare ms' ≡ map bare ms
 run_keeps S owners ms log budget answer ms' log' p = ap (map bare) p.left ∙ by (run_verdict S owners true ms budget (length log))
   where
     by : (v : Verdict) → map bare (messages_by v (ran_of S owners ms budget) ms) ≡ map bare ms
-    by Granted = sym (same_records S (table_of owners) budget ms)
-    by (Denied k) = refl
+    by (Ok _) = sym (same_records S (table_of owners) budget ms)
+    by (Err k) = refl
 
 -- no place is lost
-pub withdrawal_keeps : (station : ℕ) (ms : List Message) (answer : Withdrawal) (ms' : List Message) → WithdrawalPromise station ms answer ms' → length ms' ≡ length ms
+pub withdrawal_keeps : (station : ℕ) (ms : List Message) (answer : Result Withdrawn Refusal) (ms' : List Message) → WithdrawalPromise station ms answer ms' → length ms' ≡ length ms
 withdrawal_keeps station ms answer ms' p = ap length p.left ∙ by (withdrawal_verdict station (length ms))
   where
     by : (v : Verdict) → length (list_by v station ms) ≡ length ms
-    by Granted = length_after station ms
-    by (Denied r) = refl
+    by (Ok _) = length_after station ms
+    by (Err r) = refl
 
 -- so a caller who lends these places lends the list
-pub kept_in_front : (station : ℕ) (ms : List Message) (kept withdrawn : ℕ) (ms' : List Message) → WithdrawalPromise station ms (Withdrawn kept withdrawn) ms' → take kept ms' ≡ kept_of station ms
-kept_in_front station ms kept withdrawn ms' p = by (withdrawal_verdict station (length ms)) p.figured p.left
+pub kept_in_front : (station : ℕ) (ms : List Message) (answer : Withdrawn) (ms' : List Message) → WithdrawalPromise station ms (Ok answer) ms' → take answer.kept ms' ≡ kept_of station ms
+kept_in_front station ms answer ms' p = by (withdrawal_verdict station (length ms)) p.figured p.left
   where
-    by : (v : Verdict) → (0, kept, withdrawn) ≡ figures_by v station ms → ms' ≡ list_by v station ms → take kept ms' ≡ kept_of station ms
-    by Granted e l =
-        ap (take kept) l
-        ∙ ap (λ (n : ℕ). take n (list_by Granted station ms)) (ap (λ (f : ℕ × ℕ × ℕ). f.1) e)
+    by : (v : Verdict) → (0, answer.kept, answer.withdrawn) ≡ figures_by v station ms → ms' ≡ list_by v station ms → take answer.kept ms' ≡ kept_of station ms
+    by (Ok _) e l =
+        ap (take answer.kept) l
+        ∙ ap (λ (n : ℕ). take n (list_by granted station ms)) (ap (λ (f : ℕ × ℕ × ℕ). f.1) e)
         ∙ take-append_seam (kept_of station ms) _
-    by (Denied r) e l = absurd (omega (arith, number_some r, ap (λ (f : ℕ × ℕ × ℕ). f.0) e))
+    by (Err r) e l = absurd (omega (arith, number_some r, ap (λ (f : ℕ × ℕ × ℕ). f.0) e))
