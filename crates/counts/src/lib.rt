@@ -6,171 +6,161 @@
 
 mod tills; // tills.rt: the table
 
-ghost use Rattle.std.specs.Prelude.{◌≡◌, ◌+◌, ◌*◌, ◌-◌, ◌/◌, ◌≤◌, ◌<◌, min, length, get_or};
+ghost use Rattle.std.specs.Prelude.{◌≡◌, List, [], ◌∷◌, ℕ, ◌+◌, ◌≤◌, ◌<◌, length, get_or, take};
 ghost use Rattle.trees.specs.Shape.{height_of, Tree};
 ghost use Rattle.trees.specs.Worst.{pairs, parts, rooted, worst_of};
-ghost use Rattle.refusals.specs.declared.Verdict.TheVariants.{Granted};
-ghost use Rattle.counts.specs.Counting.{up_to, Fits, PartsReady, Holds};
+ghost use Rattle.refusals.specs.Numbers.{granted};
+ghost use Rattle.counts.specs.Counting.{Together, Fits, PartsReady, Holds};
 ghost use Rattle.counts.specs.Answer.{count_verdict};
 ghost use Rattle.counts.specs.Promise.{CountPromise};
 
 use refusals::{Refusal, Verdict};
+use std::marker::Model;
 
-// The answer to a question for a worst count.
-#[derive(Clone, Copy)]
-pub enum Count {
-    Worst(u32),
-    Refused(Refusal),
+// What trees cost at most, for each number of active leaves from 0 on: `len` counts, which are what clauses see.
+#[derive(Drop)]
+struct Counts {
+    len: usize,
+    places: [u16; 1025],
 }
 
-// In 32 bits any two counts can be added.
-fn wide(count: u16) -> u32
-    ensures { (result ≡ count) × (result < 65536) }
-{
-    count as u32
+impl Model for Counts {
+    ghost Value = { List ℕ };
+
+    ghost view = { λ c. take c.len c.places };
+
+    ghost invariant = { λ c. c.len ≤ 1025 };
 }
 
-// a - b, or 0 where b is larger.
-fn less(a: usize, b: usize) -> usize
-    ensures { result ≡ a - b }
-{
-    if b < a { a - b } else { 0 }
-}
-
-// The smaller of the two.
-fn lower(a: usize, b: usize) -> usize
-    ensures { result ≡ min a b }
-{
-    if a < b { a } else { b }
-}
-
-// The largest one[i] + rest[k - i], with i from 0 to s and k - i from 0 to e.
-fn best_pair(one: &[u16], s: usize, rest: &[u16], e: usize, k: usize) -> u32
-    requires { (s < length one.now) × (e < length rest.now) × (s + e ≤ 1024) × (k ≤ s + e) }
-    ensures { result ≡ get_or (pairs (up_to s one.now) (up_to e rest.now)) k 0 }
-{
-    let last = lower(k, s);
-    let mut i = less(k, e);
-    let mut best: u32 = 0;
-    while i <= last {
-        let sum = wide(one[i]) + wide(rest[k - i]);
-        if best < sum {
-            best = sum;
+impl Counts {
+    // Without a tree no leaf is active, and nothing costs.
+    fn of_no_tree() -> Counts
+        ensures { result ≡ 0 ∷ [] }
+    {
+        Counts {
+            len: 1,
+            places: [0; 1025],
         }
-        i += 1;
+    }
+
+    // X(0, 1) and X(1, 1).
+    fn of_leaf() -> Counts
+        ensures { result ≡ 1 ∷ 0 ∷ [] }
+    {
+        let mut places = [0; 1025];
+        places[0] = 1;
+        Counts { len: 2, places }
+    }
+
+    fn as_slice(&self) -> &[u16]
+        ensures { result.now ≡ self.now }
+    {
+        &self.places[..self.len]
+    }
+}
+
+// The largest one[i] + rest[k - i], over all i for which both are there.
+#[tactic(auto, using(crate::proofs::CountLaws::under_best))]
+fn best_pair(one: &[u16], rest: &[u16], k: usize) -> u32
+    requires { Together one.now rest.now × (k + 1 < length one.now + length rest.now) }
+    ensures { result ≡ get_or (pairs one.now rest.now) k 0 }
+{
+    let from = (k + 1).saturating_sub(rest.len());
+    let to = one.len().min(k + 1);
+    let mut best = 0;
+    for i in from..to {
+        best = best.max(u32::from(one[i]) + u32::from(rest[k - i]));
     }
     best
 }
 
-// Those for k from 0 to s + e: a tree of s leaves and others of e leaves together.
-fn paired(one: &[u16], s: usize, rest: &[u16], e: usize) -> [u16; 1025]
-    requires { (s < length one.now) × (e < length rest.now) × (s + e ≤ 1024)
-        × Fits (pairs (up_to s one.now) (up_to e rest.now)) }
-    ensures { up_to (s + e) result ≡ pairs (up_to s one.now) (up_to e rest.now) }
+// What some trees and some others cost at most together.
+fn paired(one: &[u16], rest: &[u16]) -> Counts
+    requires { Together one.now rest.now × Fits (pairs one.now rest.now) }
+    ensures { result ≡ pairs one.now rest.now }
 {
-    let mut counts = [0u16; 1025];
-    let most = s + e;
-    let mut k = 0;
-    while k <= most {
-        counts[k] = best_pair(one, s, rest, e, k) as u16;
-        k += 1;
+    let len = one.len() + rest.len() - 1;
+    let mut places = [0; 1025];
+    for k in 0..len {
+        places[k] = best_pair(one, rest, k) as u16;
+    }
+    Counts { len, places }
+}
+
+// What j trees cost at most together.
+fn all_parts(small: &[u16], j: usize) -> Counts
+    requires { PartsReady small.now j }
+    ensures { result ≡ parts small.now j }
+{
+    let mut counts = Counts::of_no_tree();
+    for _ in 0..j {
+        counts = paired(small, counts.as_slice());
     }
     counts
 }
 
-// What j trees of s leaves cost at most together, for each number of active leaves in them.
-fn all_parts(small: &[u16], s: usize, j: usize) -> [u16; 1025]
-    requires { PartsReady small.now s j }
-    ensures { up_to (j * s) result ≡ parts (up_to s small.now) j }
+// The root over its parts: from 2 on its slot comes to the parts' cost, X(0) is 1 and X(1) is 0.
+fn add_root(counts: &mut [u16])
+    requires { (2 ≤ length counts.old) × Fits (rooted counts.old) }
+    ensures { counts.new ≡ rooted counts.old }
 {
-    let mut counts = [0u16; 1025];
-    let mut i = 0;
-    while i < j {
-        counts = paired(small, s, &counts, i * s);
-        i += 1;
+    for count in &mut counts[2..] {
+        *count += 1;
     }
-    counts
-}
-
-// The root over its parts: X(0) is 1, X(1) is 0, and from 2 on the root's slot comes to the parts' cost.
-fn with_root(all: &[u16], t: usize) -> [u16; 1025]
-    requires { (t < length all.now) × (1 ≤ t) × (t ≤ 1024) × Fits (rooted (up_to t all.now)) }
-    ensures { up_to t result ≡ rooted (up_to t all.now) }
-{
-    let mut counts = [0u16; 1025];
     counts[0] = 1;
     counts[1] = 0;
-    let mut k = 2;
-    while k <= t {
-        counts[k] = all[k] + 1;
-        k += 1;
-    }
-    counts
 }
 
-// One level up: the counts of a tree of t leaves, from those of a tree m times smaller.
+// One level up: the counts of a tree, from those of its m subtrees.
 // A function of its own, so that the recursion below holds no array of parts at each level: 50 KB of stack in all.
-fn level_up(small: &[u16], m: usize, t: usize) -> [u16; 1025]
-    requires { Tree m t × (2 ≤ t) × (t / m < length small.now) × Holds m (t / m) small.now }
-    ensures { Holds m t result }
+fn level_up(small: &Counts, m: usize) -> Counts
+    requires { PartsReady small.now m × (2 ≤ length (parts small.now m)) × Fits (rooted (parts small.now m)) }
+    ensures { result ≡ rooted (parts small.now m) }
 {
-    let s = t / m;
-    let all = all_parts(small, s, m);
-    with_root(&all, t)
+    let Counts { len, mut places } = all_parts(small.as_slice(), m);
+    add_root(&mut places[..len]);
+    Counts { len, places }
 }
 
 // X(0, t) to X(t, t); the leaf count falls at each call.
-fn counts_of(m: usize, t: usize) -> [u16; 1025]
+#[tactic(auto, using(crate::proofs::CountLaws::smaller_tree))]
+fn counts_of(m: usize, t: usize) -> Counts
     requires { Tree m t }
     ensures { Holds m t result }
 {
     if t == 1 {
-        let mut leaf = [0u16; 1025];
-        leaf[0] = 1;
-        return leaf;
+        return Counts::of_leaf();
     }
-    let small = counts_of(m, t / m);
-    level_up(&small, m, t)
+    level_up(&counts_of(m, t / m), m)
 }
 
 // Refusals 1 and 2, then 5.
 fn count_verdict(m: u32, t: u32, k: u32) -> Verdict
     ensures { result ≡ count_verdict m t k }
 {
-    let tree = trees::tree_verdict(m, t);
-    match tree {
-        Verdict::Refused(refusal) => Verdict::Refused(refusal),
-        Verdict::Granted => {
-            if k <= t {
-                Verdict::Granted
-            } else {
-                Verdict::Refused(Refusal::ActiveCount)
-            }
-        }
+    trees::tree_verdict(m, t)?;
+    if k > t {
+        return Err(Refusal::ActiveCount);
     }
+    Ok(())
 }
 
 // X(k, t) where nothing is refused: read from the table for the tills' tree, else counted.
 fn granted_count(m: usize, t: usize, k: usize) -> u32
-    requires { count_verdict m t k ≡ Granted }
+    requires { count_verdict m t k ≡ granted }
     ensures { result ≡ worst_of m (height_of m t) k }
 {
-    if m == 4 {
-        if t == 256 {
-            return tills::tills_count(k) as u32;
-        }
+    if m == 4 && t == 256 {
+        return u32::from(tills::tills_count(k));
     }
     let counts = counts_of(m, t);
-    counts[k] as u32
+    u32::from(counts.as_slice()[k])
 }
 
 // The worst count X(k, t) of a tree with m branches and t leaves.
-pub fn worst_count(m: u32, t: u32, k: u32) -> Count
+pub fn worst_count(m: u32, t: u32, k: u32) -> Result<u32, Refusal>
     ensures { CountPromise m t k result }
 {
-    let verdict = count_verdict(m, t, k);
-    match verdict {
-        Verdict::Refused(refusal) => Count::Refused(refusal),
-        Verdict::Granted => Count::Worst(granted_count(m as usize, t as usize, k as usize)),
-    }
+    count_verdict(m, t, k)?;
+    Ok(granted_count(m as usize, t as usize, k as usize))
 }
