@@ -83,18 +83,6 @@ module _ (m t : ℕ) (g : Grown m t) where
 pub compressed : (S : Shop) → Sound S → S.compression * S.width ≤ 8000000
 compressed S n = mul-le-mul {n₁ = S.compression} {m₁ = S.width} {n₂ = 8} {m₂ = 1000000} n.factor n.width
 
--- the first leaf and the width of a time subtree fit
-pub time_fits : (S : Shop) → Sound S → (φ : Standing) → Within S φ → (a w : ℕ) → φ ≡ Time a w → a + w ≤ 1024
-time_fits S n φ h a w e =
-    let s : Subtree S.time.branches S.time.leaves a w = subst (Within S) e h in
-    omega (arith, s.inside, n.time.tree.few)
-
--- those of a static subtree fit, and the time leaf does
-pub static_fits : (S : Shop) → Sound S → (φ : Standing) → Within S φ → (a w p : ℕ) → φ ≡ Static a w p → (a + w ≤ 1024) × (p < 1024)
-static_fits S n φ h a w p e =
-    let s : (a + w ≤ S.index.leaves) × (p < S.time.leaves) = subst (Within S) e h in
-    (omega (arith, n.static.tree.few), omega (arith, n.time.tree.few))
-
 -- ---- after an event
 
 -- the reference time by a bound R of the times before, and the standing
