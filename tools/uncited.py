@@ -1,8 +1,8 @@
 #!/usr/bin/env python3
 """Lists the lemmas of crates/*/proofs/*.antt that no proof, definition or clause cites: `tools/uncited.py [FOLDER]`.
 
-A name counts as cited where it stands anywhere but at the head of its own signature or clauses. A name that README.md or
-docs/ gives is marked with `named`: it is there to be read.
+A name counts as cited where it stands anywhere but in its own signature and clauses. A name that README.md or docs/ gives
+is marked with `named`: it is there to be read.
 """
 import pathlib
 import re
@@ -29,18 +29,17 @@ def lemmas(text):
 
 
 def cited(name, own, files):
+    """Whether the name stands anywhere but in its own block, which ends at a blank line."""
     word = whole(name)
-    head = re.compile(r"^(?:  )?" + HEAD + re.escape(name) + r"(?![\w'-])")
     for path, text in files.items():
         if name not in text:
             continue
-        if path != own:
-            if word.search(text):
-                return True
-            continue
-        for line in text.splitlines():
-            if name in line and len(word.findall(line)) > (1 if head.match(line) else 0):
-                return True
+        if path == own:
+            start = re.search(r"^(?:  )?" + HEAD + re.escape(name) + " :", text, re.M).start()
+            end = text.find("\n\n", start)
+            text = text[:start] + (text[end:] if end >= 0 else "")
+        if word.search(text):
+            return True
     return False
 
 

@@ -7,14 +7,14 @@ use mathlib.Core.Logic.{◌⊎◌, inl, inr, ⊎_elim}
 use Prim.Native.Nat.{ℕ, zero, suc, ◌+◌, ◌<◌}
 use native.Mathlib.Omega.{arith}
 use lib.Dec.{eqb}
-use lib.ListN.{length, get_or, take, drop, set, replicate, length-set, length-map, length-replicate}
+use lib.ListN.{length, get_or, take, drop, set, replicate, length-set, length-map}
 use lib.Seq.{get_or-set_same, get_or-set_other}
 use borrow.Author.Tests.{eqb-true, eqb-false}
 use Rattle.std.proofs.lemmas.List.{get_or_default}
 use Rattle.std.proofs.lemmas.List.Edits.{map_over_more}
 use Rattle.messages.specs.declared.Message.{Message}
 use Rattle.messages.specs.Message.{unsent, none, blank, waits, first_message, sent_at, fresh, all_sent}
-use Rattle.messages.specs.Lists.{listed, all_marked, SameLength, Timed, TimedList, Runnable}
+use Rattle.messages.specs.Lists.{listed, all_marked, Timed, TimedList, Runnable}
 use Rattle.messages.proofs.OrderLaws.{candidate, among}
 
 -- the first n, of a list and of f of each
@@ -122,48 +122,3 @@ listed_at [] a r l s i h = absurd (omega arith)
 listed_at (x ∷ stations) a r l s zero h = refl
 listed_at (x ∷ stations) a r l s (suc i) h =
     listed_at stations (drop 1 a) (drop 1 r) (drop 1 l) (drop 1 s) i (omega arith) ∙ simp (behind a i, behind r i, behind l i, behind s i)
-
--- one slot of sending set is one message sent at it
-pub listed_set : (stations arrivals relatives lengths sent : List ℕ) (i v : ℕ) → i < length stations → length sent ≡ length stations
-    → listed stations arrivals relatives lengths (set sent i v)
-    ≡ set (listed stations arrivals relatives lengths sent) i (sent_at v (get_or (listed stations arrivals relatives lengths sent) i blank))
-listed_set [] a r l s i v h e = absurd (omega arith)
-listed_set (x ∷ stations) a r l [] i v h e = absurd (omega arith)
-listed_set (x ∷ stations) a r l (y ∷ s) zero v h e = refl
-listed_set (x ∷ stations) a r l (y ∷ s) (suc i) v h e =
-    ap (λ (ms : List Message). record { station = x; arrival = get_or a 0 0; relative = get_or r 0 0; length = get_or l 0 0; sent = y } ∷ ms)
-    (listed_set stations (drop 1 a) (drop 1 r) (drop 1 l) s i v (omega arith) (omega arith))
-
--- the slices are still of one length
-pub same_set : (stations arrivals relatives lengths sent : List ℕ) (i v : ℕ) → SameLength stations arrivals relatives lengths sent
-    → SameLength stations arrivals relatives lengths (set sent i v)
-same_set stations a r l s i v h =
-    record { few = h.few; arrivals_too = h.arrivals_too; relatives_too = h.relatives_too; lengths_too = h.lengths_too; sent_too = simp length-set h.sent_too }
-
--- and the list is still in range
-pub timed_listed_set : (stations arrivals relatives lengths sent : List ℕ) (i v : ℕ) → i < length stations → length sent ≡ length stations
-    → TimedList (listed stations arrivals relatives lengths sent) → TimedList (listed stations arrivals relatives lengths (set sent i v))
-timed_listed_set stations a r l s i v h e t = rw (listed_set stations a r l s i v h e) (timed_set (listed stations a r l s) i v t)
-
--- every slot unsent is the list as a run begins
-pub listed_fresh : (stations arrivals relatives lengths sent : List ℕ)
-    → listed stations arrivals relatives lengths (replicate (length stations) unsent) ≡ fresh (listed stations arrivals relatives lengths sent)
-listed_fresh [] a r l s = refl
-listed_fresh (x ∷ stations) a r l s =
-    ap (λ (ms : List Message). record { station = x; arrival = get_or a 0 0; relative = get_or r 0 0; length = get_or l 0 0; sent = unsent } ∷ ms)
-    (listed_fresh stations (drop 1 a) (drop 1 r) (drop 1 l) (drop 1 s))
-
--- the slices are of one length then too
-pub same_fresh : (stations arrivals relatives lengths sent : List ℕ) → SameLength stations arrivals relatives lengths sent
-    → SameLength stations arrivals relatives lengths (replicate (length stations) unsent)
-same_fresh stations a r l s h =
-    record { few = h.few; arrivals_too = h.arrivals_too; relatives_too = h.relatives_too; lengths_too = h.lengths_too; sent_too = length-replicate (length stations) unsent }
-
--- the slots of sending alone tell whether all are sent
-pub all_sent_listed : (stations arrivals relatives lengths sent : List ℕ) → length sent ≡ length stations
-    → all_sent (listed stations arrivals relatives lengths sent) ≡ all_marked sent
-all_sent_listed [] a r l [] e = refl
-all_sent_listed [] a r l (y ∷ s) e = absurd (omega arith)
-all_sent_listed (x ∷ stations) a r l [] e = absurd (omega arith)
-all_sent_listed (x ∷ stations) a r l (y ∷ s) e =
-    ap (λ (b : Bool). not (eqb y unsent) && b) (all_sent_listed stations (drop 1 a) (drop 1 r) (drop 1 l) s (omega arith))

@@ -1,7 +1,6 @@
 -- What the functions on a list of messages ask, and how slices of numbers, one for each field, make a list.
 --
 --   listed stations arrivals relatives lengths sent    the list of messages that the slices hold
---   all_marked sent      no slot of sending is unsent
 --   SameLength ..        the slices are of one length, at most 512
 --   Timed m              the times of m are in range, so that its deadline fits
 --   TimedList ms         each message is
@@ -16,11 +15,6 @@ listed [] arrivals relatives lengths sent = []
 listed (s ∷ stations) arrivals relatives lengths sent =
     record { station = s; arrival = get_or arrivals 0 0; relative = get_or relatives 0 0; length = get_or lengths 0 0; sent = get_or sent 0 0 }
     ∷ listed stations (drop 1 arrivals) (drop 1 relatives) (drop 1 lengths) (drop 1 sent)
-
--- of the slots of sending alone
-abbrev pub all_marked : List ℕ → Bool
-all_marked [] = true
-all_marked (s ∷ sent) = not (eqb s unsent) && all_marked sent
 
 -- one length, within the limit
 pub record SameLength (stations arrivals relatives lengths sent : List ℕ) : Type 0 where

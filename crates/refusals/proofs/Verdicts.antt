@@ -7,7 +7,7 @@ use native.Mathlib.Nat.{eq-zero-or-pos}
 use native.Mathlib.Omega.{arith}
 use lib.Dec.{leb}
 use mathlib.Core.List.{List, [], ◌∷◌}
-use borrow.Author.Tests.{leb-true, le-leb, lt-leb}
+use borrow.Author.Tests.{leb-true, le-leb}
 use Rattle.refusals.specs.declared.Refusal.{Refusal}
 use Rattle.refusals.specs.declared.Refusal.TheVariants.{Branching, LeafCount, LeafList, LeafByte, ActiveCount, Stations, ClassNumbers, IndexTable, Messages, Budget, LogRoom, ReferenceTime, Text}
 use Rattle.std.specs.Prelude.{Ok, Err}
@@ -36,16 +36,7 @@ within_true lo hi x e = let b = both (leb lo x) (leb x hi) e in (leb-true lo x b
 pub in_range : (lo hi x : ℕ) → lo ≤ x → x ≤ hi → within lo hi x ≡ true
 in_range lo hi x h g = simp (le-leb lo x h, le-leb x hi g)
 
-pub below_range : (lo hi x : ℕ) → x < lo → within lo hi x ≡ false
-below_range lo hi x h = simp (lt-leb lo x h)
-
-pub above_range : (lo hi x : ℕ) → lo ≤ x → hi < x → within lo hi x ≡ false
-above_range lo hi x h g = simp (le-leb lo x h, lt-leb x hi g)
-
 -- ---- tests one after the other, as a function comes to them
-
-pub turned : (b : Bool) (r : Refusal) (v : Verdict) → b ≡ false → Err r ≡ ask b r v
-turned b r v e = rw e refl
 
 pub passed : (b : Bool) (r : Refusal) (v w : Verdict) → b ≡ true → w ≡ v → w ≡ ask b r v
 passed b r v w e f = rw e f

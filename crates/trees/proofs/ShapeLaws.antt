@@ -95,9 +95,6 @@ reached_last m t p h few le r = go (eqb p t) refl
     go true e = sym (reached_is m t p h few (eqb-true p t e) r)
     go false e = sym (reached_not m t p h le (eqb-false p t e) r)
 
-pub too_many : (m t : ℕ) → 1024 < t → false ≡ ltb 0 (height_of m t)
-too_many m t h = rw (lt-ltb 1024 t h, height_of) refl
-
 -- ---- the verdict
 
 -- what a granted tree is
