@@ -1,20 +1,20 @@
 -- Lists of messages: a station's first message, a slot of sending set, the list as a run begins; and the list that
 -- slices of numbers hold, one for each field.
 use mathlib.Core.Path.{◌≡◌, refl, sym, ap, subst, ◌∙◌}
-use mathlib.Core.Bool.{Bool, true, false, not, ◌&&◌}
+use mathlib.Core.Bool.{Bool, true, false, ◌&&◌}
 use mathlib.Core.List.{List, [], ◌∷◌, ◌++◌, map}
 use mathlib.Core.Logic.{◌⊎◌, inl, inr, ⊎_elim}
 use Prim.Native.Nat.{ℕ, zero, suc, ◌+◌, ◌<◌}
 use native.Mathlib.Omega.{arith}
 use lib.Dec.{eqb}
-use lib.ListN.{length, get_or, take, drop, set, replicate, length-set, length-map}
+use lib.ListN.{length, get_or, take, drop, set, length-set, length-map}
 use lib.Seq.{get_or-set_same, get_or-set_other}
 use borrow.Author.Tests.{eqb-true, eqb-false}
 use Rattle.std.proofs.lemmas.List.{get_or_default}
 use Rattle.std.proofs.lemmas.List.Edits.{map_over_more}
 use Rattle.messages.specs.declared.Message.{Message}
-use Rattle.messages.specs.Message.{unsent, none, blank, waits, first_message, sent_at, fresh, all_sent}
-use Rattle.messages.specs.Lists.{listed, all_marked, Timed, TimedList, Runnable}
+use Rattle.messages.specs.Message.{unsent, none, blank, waits, first_message, sent_at, fresh}
+use Rattle.messages.specs.Lists.{listed, Timed, TimedList, Runnable}
 use Rattle.messages.proofs.OrderLaws.{candidate, among}
 
 -- the first n, of a list and of f of each

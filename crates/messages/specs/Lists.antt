@@ -5,9 +5,9 @@
 --   Timed m              the times of m are in range, so that its deadline fits
 --   TimedList ms         each message is
 --   Runnable ms          they are at most 512, each in range
-use Rattle.std.specs.Prelude.{◌≡◌, Bool, true, not, ◌&&◌, List, [], ◌∷◌, ℕ, ◌≤◌, ◌<◌, eqb, length, get_or, drop}
+use Rattle.std.specs.Prelude.{◌≡◌, List, [], ◌∷◌, ℕ, ◌≤◌, ◌<◌, length, get_or, drop}
 use Rattle.messages.specs.declared.Message.{Message}
-use Rattle.messages.specs.Message.{blank, unsent}
+use Rattle.messages.specs.Message.{blank}
 
 -- as many messages as stations
 abbrev pub listed : List ℕ → List ℕ → List ℕ → List ℕ → List ℕ → List Message
