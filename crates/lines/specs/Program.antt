@@ -6,9 +6,8 @@
 --   program_run text      the run that the text asks for
 --   program_text text     every byte that the program writes
 use Rattle.std.specs.Prelude.{true, List, ℕ, ◌*◌}
-use Rattle.refusals.specs.declared.Verdict.{Verdict}
 use Rattle.refusals.specs.declared.Refusal.TheVariants.{Text}
-use Rattle.refusals.specs.Numbers.{ask}
+use Rattle.refusals.specs.Numbers.{Verdict, ask}
 use Rattle.rows.specs.declared.Row.{Row}
 use Rattle.inputs.specs.Inputs.{run_verdict}
 use Rattle.wire.specs.Run.{World}
