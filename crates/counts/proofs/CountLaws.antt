@@ -5,8 +5,11 @@ use mathlib.Core.Logic.{⊎_elim}
 use Prim.Native.Nat.{ℕ, zero, suc, ◌+◌, ◌*◌, ◌^◌, ◌/◌, ◌≤◌, ◌<◌, ◌-◌, zero-le}
 use native.Mathlib.Nat.{le_refl, le_antisymm, not-suc-le-zero, suc-mul, mul-le-mul_right, pow-zero, one-le-pow}
 use native.Mathlib.Omega.{arith}
-use lib.ListN.{length, get_or, take, set, get_or-eq_default}
-use Rattle.std.proofs.lemmas.List.{take_all, take_more, take_more_set}
+use native.Mathlib.Numerals.{add-one}
+use lib.ListN.{length, get_or, take, drop, set, get_or-eq_default}
+use Rattle.std.proofs.lemmas.Grind.{common_steps}
+use Rattle.std.proofs.lemmas.List.Edits.{map_over_more}
+use Rattle.std.proofs.lemmas.List.{get_or_default, take_all, take_more, take_more_set}
 use Rattle.trees.specs.Shape.{Tree, nodes}
 use Rattle.trees.specs.Worst.{pairs, parts, rooted, worst, valued}
 use Rattle.trees.proofs.Powers.{le_or_lt, pow_inj, Below, below, under, power, some_leaf, smaller, shrinks}
@@ -46,6 +49,15 @@ fill_step out target i v h g e f = take_more_set out i v h ∙ ap (λ (l : List 
 -- filled to the end, they are the target
 pub filled : (out target : List ℕ) (i n : ℕ) → length target ≡ n → i ≡ n → take i out ≡ take i target → take n out ≡ target
 filled out target i n len e f = rw e at f ∙ take_all n target (omega arith)
+
+-- ---- the root's slot, added from the front
+
+pub raised : (xs ys : List ℕ) (i : ℕ) → i < length xs → ys ≡ map suc (take i xs) ++ drop i xs
+    → set ys i (get_or ys i 0 + 1) ≡ map suc (take (i + 1) xs) ++ drop (i + 1) xs
+raised xs ys i h e =
+    let x : ℕ = get_or ys i 0 in
+    let inside : i < length ys = grind (arith, common_steps) in
+    ap (λ (y : ℕ). set ys i y) (add-one x) ∙ map_over_more suc xs ys i x h e (get_or_default ys i 0 x inside)
 
 -- ---- the parts, one after the other
 

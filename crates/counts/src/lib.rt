@@ -100,6 +100,7 @@ fn all_parts(small: &[u16], j: usize) -> Counts
 }
 
 // The root over its parts: from 2 on its slot comes to the parts' cost, X(0) is 1 and X(1) is 0.
+#[tactic(auto, using(crate::proofs::CountLaws::raised))]
 fn add_root(counts: &mut [u16])
     requires { (2 ≤ length counts.old) × Fits (rooted counts.old) }
     ensures { counts.new ≡ rooted counts.old }

@@ -1,9 +1,6 @@
 -- What was reached is one more than it was.
-use Rattle.std.proofs.Common.{◌≡◌, List, ◌++◌, ◌+◌, ◌-◌, ◌<◌, ℕ, arith, suc, ap, ◌∙◌, add-one, get_or, length, map, take, drop}
-use Rattle.std.proofs.Math.ListN.{set}
+use Rattle.std.proofs.Common.{◌≡◌, List, ◌++◌, ◌+◌, ◌-◌, ◌<◌, ℕ, arith, suc, get_or, length, map, take, drop}
 use Rattle.std.proofs.lemmas.Grind.{common_steps}
-use Rattle.std.proofs.lemmas.List.Edits.{map_over_more}
-use Rattle.std.proofs.lemmas.List.{get_or_default}
 use Rattle.trees.proofs.WorstLaws.{rooted_at}
 use Rattle.counts.proofs.add_root.Goals as goal
 
@@ -25,9 +22,3 @@ overflow_add-count c =
     let inside : k < length xs = omega (arith, behind_length xs) in
     let here = unreached _ l.count-items l.count-index c.loop-count-test.true l.invariant in
     record { fits = omega (arith, here, behind_at xs l.count-index, rooted_at xs k (omega arith) inside, c.requires.1 k) }
-
-pub loop-count-preserved : goal.loop-count-preserved
-loop-count-preserved c =
-    let l = c.loop-count in
-    let x : ℕ = get_or l.count-items l.count-index 0 in
-    ap (λ (y : ℕ). set l.count-items l.count-index y) (add-one x) ∙ map_over_more suc _ l.count-items l.count-index x (omega arith) l.invariant (get_or_default l.count-items l.count-index 0 x (omega arith))
