@@ -10,14 +10,19 @@ ghost use Rattle.classes.specs.Answer.{figures as figures_of_class};
 ghost use Rattle.placements.specs.Answer.{figures as number_of_placement};
 ghost use Rattle.withdrawals.specs.Answer.{figures as figures_of_withdrawal};
 ghost use Rattle.wire.specs.Answer.{reading_of};
-ghost use Rattle.figures.specs.Numbers.{search_numbers, count_numbers, class_numbers, withdrawal_numbers, run_reading};
+ghost use Rattle.figures.specs.Numbers.{
+  refusal_told,
+  search_numbers,
+  count_numbers,
+  class_numbers,
+  withdrawal_numbers,
+  run_reading,
+};
 
-use classes::Class;
-use counts::Count;
-use placements::Placement;
-use searches::Found;
-use wire::Outcome;
-use withdrawals::Withdrawal;
+use refusals::Refusal;
+use searches::Searched;
+use wire::{Figures, Outcome};
+use withdrawals::Withdrawn;
 
 // The answer of a bare search.
 #[repr(C)]
@@ -66,112 +71,90 @@ pub struct WithdrawalNumbers {
     pub withdrawn: u32,
 }
 
-pub fn search_numbers(found: Found) -> SearchNumbers
-    ensures { search_numbers result ≡ figures_of_search found }
+// The number of the answer's refusal, 0 for none.
+fn refusal_number<T>(answer: &Result<T, Refusal>) -> u32
+    ensures { result ≡ refusal_told answer.now }
 {
-    match found {
-        Found::Searched {
-            rows,
-            silences,
-            collisions,
-        } => SearchNumbers {
-            refusal: 0,
-            rows: rows,
-            silences: silences,
-            collisions: collisions,
-        },
-        Found::Refused(refusal) => SearchNumbers {
-            refusal: refusals::number(refusal),
-            rows: 0,
-            silences: 0,
-            collisions: 0,
-        },
+    match answer {
+        Ok(_) => 0,
+        Err(refusal) => refusals::number(*refusal),
     }
 }
 
-pub fn count_numbers(count: Count) -> CountNumbers
-    ensures { count_numbers result ≡ figures_of_count count }
+pub fn search_numbers(answer: Result<Searched, Refusal>) -> SearchNumbers
+    ensures { search_numbers result ≡ figures_of_search answer }
 {
-    match count {
-        Count::Worst(slots) => CountNumbers {
-            refusal: 0,
-            slots: slots,
-        },
-        Count::Refused(refusal) => CountNumbers {
-            refusal: refusals::number(refusal),
-            slots: 0,
-        },
+    let searched = answer.unwrap_or(Searched {
+        rows: 0,
+        silences: 0,
+        collisions: 0,
+    });
+    SearchNumbers {
+        refusal: refusal_number(&answer),
+        rows: searched.rows,
+        silences: searched.silences,
+        collisions: searched.collisions,
     }
 }
 
-pub fn class_numbers(class: Class) -> ClassNumbers
-    ensures { class_numbers result ≡ figures_of_class class }
+pub fn count_numbers(answer: Result<u32, Refusal>) -> CountNumbers
+    ensures { count_numbers result ≡ figures_of_count answer }
 {
-    match class {
-        Class::Number(number) => ClassNumbers {
-            class: number,
-            refusal: 0,
-        },
-        Class::Refused(refusal) => ClassNumbers {
-            class: 0,
-            refusal: refusals::number(refusal),
-        },
+    CountNumbers {
+        refusal: refusal_number(&answer),
+        slots: answer.unwrap_or(0),
     }
 }
 
-pub fn placement_number(placement: Placement) -> u32
-    ensures { result ≡ number_of_placement placement }
+pub fn class_numbers(answer: Result<i64, Refusal>) -> ClassNumbers
+    ensures { class_numbers result ≡ figures_of_class answer }
 {
-    match placement {
-        Placement::Placed => 0,
-        Placement::Refused(refusal) => refusals::number(refusal),
+    ClassNumbers {
+        class: answer.unwrap_or(0),
+        refusal: refusal_number(&answer),
     }
 }
 
-pub fn run_numbers(outcome: Outcome) -> RunNumbers
-    ensures { run_reading result ≡ reading_of outcome }
+pub fn placement_number(answer: Result<(), Refusal>) -> u32
+    ensures { result ≡ number_of_placement answer }
 {
-    match outcome {
-        Outcome::Done(figures) => RunNumbers {
-            refusal: 0,
-            done: true,
-            events: figures.events,
-            slot: figures.slot,
-            sent: figures.sent,
-            late: figures.late,
-        },
-        Outcome::Spent(figures) => RunNumbers {
-            refusal: 0,
-            done: false,
-            events: figures.events,
-            slot: figures.slot,
-            sent: figures.sent,
-            late: figures.late,
-        },
-        Outcome::Refused(refusal) => RunNumbers {
-            refusal: refusals::number(refusal),
-            done: false,
-            events: 0,
-            slot: 0,
-            sent: 0,
-            late: 0,
-        },
+    refusal_number(&answer)
+}
+
+pub fn run_numbers(answer: Result<Outcome, Refusal>) -> RunNumbers
+    ensures { run_reading result ≡ reading_of answer }
+{
+    let nothing = Figures {
+        events: 0,
+        slot: 0,
+        sent: 0,
+        late: 0,
+    };
+    let (done, figures) = match answer {
+        Ok(Outcome::Done(figures)) => (true, figures),
+        Ok(Outcome::Spent(figures)) => (false, figures),
+        Err(_) => (false, nothing),
+    };
+    RunNumbers {
+        refusal: refusal_number(&answer),
+        done,
+        events: figures.events,
+        slot: figures.slot,
+        sent: figures.sent,
+        late: figures.late,
     }
 }
 
-pub fn withdrawal_numbers(withdrawal: Withdrawal) -> WithdrawalNumbers
-    ensures { withdrawal_numbers result ≡ figures_of_withdrawal withdrawal }
+pub fn withdrawal_numbers(answer: Result<Withdrawn, Refusal>) -> WithdrawalNumbers
+    ensures { withdrawal_numbers result ≡ figures_of_withdrawal answer }
 {
-    match withdrawal {
-        Withdrawal::Withdrawn { kept, withdrawn } => WithdrawalNumbers {
-            refusal: 0,
-            kept: kept,
-            withdrawn: withdrawn,
-        },
-        Withdrawal::Refused(refusal) => WithdrawalNumbers {
-            refusal: refusals::number(refusal),
-            kept: 0,
-            withdrawn: 0,
-        },
+    let counts = answer.unwrap_or(Withdrawn {
+        kept: 0,
+        withdrawn: 0,
+    });
+    WithdrawalNumbers {
+        refusal: refusal_number(&answer),
+        kept: counts.kept,
+        withdrawn: counts.withdrawn,
     }
 }
