@@ -1,8 +1,8 @@
-use Rattle.std.proofs.Common.{length, ◌-◌, ◌≡◌, ◌≤◌}
+use Rattle.std.proofs.Common.{length, ◌-◌, ◌≤◌}
 use Rattle.ddcr.proofs.read_full.Given as goal
 
 abbrev pub invariant-loop-done : goal.invariant-loop-done
-invariant-loop-done l = (length l.room ≡ length l.initial.room) × (l.done ≤ length l.room)
+invariant-loop-done g l = l.done ≤ length l.room
 
 abbrev pub decreases-loop-done : goal.decreases-loop-done
-decreases-loop-done l = length l.initial.room - l.done
+decreases-loop-done g l = length l.initial.room - l.done
