@@ -10,7 +10,7 @@ use lib.Dec.{ltb, eqb}
 use lib.ListN.{length, get_or, take, drop, length-drop, take-append-drop, get_or-append}
 use lib.Seq.{take-suc, get_or-drop, drop-drop}
 use borrow.Author.Tests.{lt-ltb, le-ltb, eqb-true, eqb-false}
-use Rattle.messages.proofs.ListLaws.{map_take}
+use Rattle.std.specs.List.{take-map}
 use Rattle.trees.specs.Search.{ones}
 use Rattle.trees.proofs.Powers.{le_or_lt}
 use Rattle.trees.proofs.LeafLaws.{part}
@@ -108,8 +108,8 @@ ones_owners z f few (o ∷ l) =
 
 -- the leaf bytes of a part
 pub part_map : (f : ℕ → ℕ) (l : List ℕ) (a w : ℕ) → part (map f l) a w ≡ map f (part l a w)
-part_map f l zero w = map_take f w l
-part_map f [] (suc a) w = map_take f w []
+part_map f l zero w = take-map f w l
+part_map f [] (suc a) w = take-map f w []
 part_map f (o ∷ l) (suc a) w = part_map f l a w
 
 -- ---- the owners at the front of the table

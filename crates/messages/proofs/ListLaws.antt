@@ -2,7 +2,7 @@
 -- slices of numbers hold, one for each field.
 use mathlib.Core.Path.{◌≡◌, refl, sym, ap, subst, ◌∙◌}
 use mathlib.Core.Bool.{Bool, true, false, ◌&&◌}
-use mathlib.Core.List.{List, [], ◌∷◌, ◌++◌, map}
+use mathlib.Core.List.{List, [], ◌∷◌, ◌++◌}
 use mathlib.Core.Logic.{◌⊎◌, inl, inr, ⊎_elim}
 use Prim.Native.Nat.{ℕ, zero, suc, ◌+◌, ◌<◌}
 use native.Mathlib.Omega.{arith}
@@ -16,12 +16,6 @@ use Rattle.messages.specs.declared.Message.{Message}
 use Rattle.messages.specs.Message.{unsent, none, blank, waits, first_message, sent_at, fresh}
 use Rattle.messages.specs.Lists.{listed, Timed, TimedList, Runnable}
 use Rattle.messages.proofs.OrderLaws.{candidate, among}
-
--- the first n, of a list and of f of each
-pub map_take : {A B : Type 0} (f : A → B) (n : ℕ) (l : List A) → take n (map f l) ≡ map f (take n l)
-map_take f zero l = refl
-map_take f (suc n) [] = refl
-map_take f (suc n) (x ∷ l) = ap (λ q. f x ∷ q) (map_take f n l)
 
 -- ---- a station's first message
 
