@@ -10,8 +10,7 @@
 --   one_search .. one_withdrawal    lemmas: two results that a promise allows for one input are equal; of a placement, the number, and the list after a refusal
 use Rattle.std.specs.Prelude.{◌≡◌, true, List, ℕ, ℤ, length}
 use Rattle.std.proofs.Common.{sym, ap, ◌∙◌}
-use Rattle.refusals.specs.declared.Verdict.TheVariants.{Granted}
-use Rattle.refusals.specs.Numbers.{verdict_number}
+use Rattle.refusals.specs.Numbers.{granted, verdict_number}
 use Rattle.trees.specs.Shape.{height_of}
 use Rattle.searches.specs.Answer.{search_figures, search_log}
 use Rattle.counts.specs.Answer.{count_of}
@@ -21,8 +20,7 @@ use Rattle.messages.specs.declared.Message.{Message}
 use Rattle.messages.specs.Lists.{listed}
 use Rattle.phases.specs.declared.Shop.{Shop}
 use Rattle.inputs.specs.Inputs.{same_lengths, run_verdict}
-use Rattle.wire.specs.Answer.{Reading, reading_by, marks_by, log_by, ran_of}
-use Rattle.runs.specs.Slots.{messages_by}
+use Rattle.wire.specs.Answer.{Reading, reading_by, messages_by, marks_by, log_by, ran_of}
 use Rattle.withdrawals.specs.Answer.{figures_of, list_of}
 use Rattle.figures.specs.declared.SearchNumbers.{SearchNumbers}
 use Rattle.figures.specs.declared.CountNumbers.{CountNumbers}
@@ -40,8 +38,8 @@ pub record CountExported (m t k : ℕ) (r : CountNumbers) : Type 0 where
 
 pub record PlacementExported (m t k : ℕ) (before : List ℕ) (r : ℕ) (after : List ℕ) : Type 0 where
   pub numbered : r ≡ verdict_number (placement_verdict m t k (length before))
-  pub kept : (placement_verdict m t k (length before) ≡ Granted → ⊥) → after ≡ before
-  pub placed : placement_verdict m t k (length before) ≡ Granted → Costly m (height_of m t) k after
+  pub kept : (placement_verdict m t k (length before) ≡ granted → ⊥) → after ≡ before
+  pub placed : placement_verdict m t k (length before) ≡ granted → Costly m (height_of m t) k after
 
 pub record ClassExported (deadline offset reference width : ℕ) (r : ClassNumbers) : Type 0 where
   pub figured : class_numbers r ≡ class_figures deadline offset reference width
@@ -90,7 +88,7 @@ pub one_count : (m t k : ℕ) (a b : CountNumbers) → CountExported m t k a →
 one_count m t k a b p q = count_tells a b (p.figured ∙ sym q.figured)
 
 pub one_placement : (m t k : ℕ) (before : List ℕ) (a b : ℕ) (xs ys : List ℕ) → PlacementExported m t k before a xs → PlacementExported m t k before b ys
-    → (a ≡ b) × ((placement_verdict m t k (length before) ≡ Granted → ⊥) → xs ≡ ys)
+    → (a ≡ b) × ((placement_verdict m t k (length before) ≡ granted → ⊥) → xs ≡ ys)
 one_placement m t k before a b xs ys p q = (p.numbered ∙ sym q.numbered, λ refused. p.kept refused ∙ sym (q.kept refused))
 
 pub one_class : (deadline offset reference width : ℕ) (a b : ClassNumbers) → ClassExported deadline offset reference width a → ClassExported deadline offset reference width b → a ≡ b

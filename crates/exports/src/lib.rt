@@ -23,8 +23,7 @@ use phases::Shop;
 pub extern "C" fn mirvuttu_search(m: u32, t: u32, leaves: &[u8], log: &mut [u8]) -> SearchNumbers
     ensures { SearchExported m t leaves.now log.old result log.new }
 {
-    let found = searches::search(m, t, leaves, log);
-    figures::search_numbers(found)
+    figures::search_numbers(searches::search(m, t, leaves, log))
 }
 
 // The worst count of k active leaves.
@@ -32,8 +31,7 @@ pub extern "C" fn mirvuttu_search(m: u32, t: u32, leaves: &[u8], log: &mut [u8])
 pub extern "C" fn mirvuttu_worst_count(m: u32, t: u32, k: u32) -> CountNumbers
     ensures { CountExported m t k result }
 {
-    let count = counts::worst_count(m, t, k);
-    figures::count_numbers(count)
+    figures::count_numbers(counts::worst_count(m, t, k))
 }
 
 // A placement of k active leaves in the lent list; the answer is a refusal's number, 0 for none.
@@ -41,8 +39,7 @@ pub extern "C" fn mirvuttu_worst_count(m: u32, t: u32, k: u32) -> CountNumbers
 pub extern "C" fn mirvuttu_place(m: u32, t: u32, k: u32, leaves: &mut [u8]) -> u32
     ensures { PlacementExported m t k leaves.old result leaves.new }
 {
-    let placement = placements::place(m, t, k, leaves);
-    figures::placement_number(placement)
+    figures::placement_number(placements::place(m, t, k, leaves))
 }
 
 // The class of a message.
@@ -55,8 +52,7 @@ pub extern "C" fn mirvuttu_class(
 ) -> ClassNumbers
     ensures { ClassExported deadline offset reference width result }
 {
-    let class = classes::class_answer(deadline, offset, reference, width);
-    figures::class_numbers(class)
+    figures::class_numbers(classes::class_answer(deadline, offset, reference, width))
 }
 
 // A run over messages that are held field by field.
@@ -76,10 +72,10 @@ pub extern "C" fn mirvuttu_run_fields(
         relatives.now lengths.now sent.old log.old budget result
         sent.new log.new }
 {
-    let outcome = wire::run(
+    let answer = runs::run_fields(
         shop, owners, stations, arrivals, relatives, lengths, sent, log, budget,
     );
-    figures::run_numbers(outcome)
+    figures::run_numbers(answer)
 }
 
 // A run over the lent list of records.
@@ -94,8 +90,7 @@ pub extern "C" fn mirvuttu_run(
     ensures { ShopExported shop owners.now messages.old log.old budget result
         messages.new log.new }
 {
-    let outcome = shop::run_shop(shop, owners, messages, log, budget);
-    figures::run_numbers(outcome)
+    figures::run_numbers(shop::run_shop(shop, owners, messages, log, budget))
 }
 
 // A withdrawal from the lent list of records.
@@ -103,8 +98,7 @@ pub extern "C" fn mirvuttu_run(
 pub extern "C" fn mirvuttu_withdraw(messages: &mut [Message], station: u32) -> WithdrawalNumbers
     ensures { WithdrawalExported station messages.old result messages.new }
 {
-    let withdrawal = shop::withdraw(messages, station);
-    figures::withdrawal_numbers(withdrawal)
+    figures::withdrawal_numbers(shop::withdraw(messages, station))
 }
 
 // The program's answer to a text: how many bytes were written into the output.
