@@ -6,7 +6,7 @@ use Rattle.std.proofs.lemmas.List.{length-map}
 use Rattle.std.proofs.lemmas.List.Folds.{list_all_at}
 use Rattle.numbers.specs.Decimal.{is_number, value_of, number_in}
 use Rattle.reading.specs.ShopText.{parts, is_numbers, numbers_of}
-use Rattle.reading.specs.Work.{onto, LineRead, row_of}
+use Rattle.reading.specs.Work.{onto, LineRead, numbers_line}
 use Rattle.reading.proofs.ListLaws.{onto_all, some_picked, none_picked, SoFar}
 
 pub number_picked : (p : List ℕ) → number_in p ≡ then_some (is_number p) (value_of p)
@@ -30,8 +30,8 @@ parts_read line fields₀ ps count fields s e =
     }
 
 -- a line of n numbers, or another
-pub row_read : (n : ℕ) (line fields : List ℕ) (count : ℕ) (fields' : List ℕ) (r : Option (List ℕ)) → LineRead line fields (Some count) fields' → length fields ≡ n → r ≡ then_some (eqb count n) fields' → r ≡ row_of n line
-row_read n line fields count fields' r read long is =
+pub numbers_read : (n : ℕ) (line fields : List ℕ) (count : ℕ) (fields' : List ℕ) (r : Option (List ℕ)) → LineRead line fields (Some count) fields' → length fields ≡ n → r ≡ then_some (eqb count n) fields' → r ≡ numbers_line n line
+numbers_read n line fields count fields' r read long is =
     is
     ∙ ap (λ k. then_some (eqb k n) fields') told.1
     ∙ go (eqb (length (parts line)) n) refl

@@ -3,7 +3,7 @@
 --   onto d xs             the list d with the list xs laid over it from the front, as far as it fits
 --   count_of line         how many numbers a line holds, if it is a line of numbers
 --   LineRead ..           a line that was read
---   row_of n line         the numbers of a line of n
+--   numbers_line n line   the numbers of a line of n
 --   shop_line, message_line what a line gives
 --   given_by text         what the whole text gives
 --   ShopRead ..           a text that was read
@@ -29,8 +29,8 @@ pub record LineRead (line fields : List ℕ) (count : Option ℕ) (fields' : Lis
   pub laid : is_numbers line ≡ true → fields' ≡ onto fields (numbers_of line)
 
 -- just so many
-abbrev pub row_of : ℕ → List ℕ → Option (List ℕ)
-row_of n line = then_some (holds n line) (numbers_of line)
+abbrev pub numbers_line : ℕ → List ℕ → Option (List ℕ)
+numbers_line n line = then_some (holds n line) (numbers_of line)
 
 -- 8 numbers
 abbrev pub shop_line : List ℕ → Option Shop

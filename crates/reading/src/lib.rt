@@ -5,7 +5,7 @@
 
 ghost use Rattle.std.specs.Prelude.{◌≡◌, false, [], ◌∷◌, ◌++◌, set, MatchOption};
 ghost use Rattle.reading.specs.ShopText.{lines_of, shop_lines};
-ghost use Rattle.reading.specs.Work.{LineRead, row_of, shop_line, message_line, ShopRead};
+ghost use Rattle.reading.specs.Work.{LineRead, numbers_line, shop_line, message_line, ShopRead};
 
 use messages::Message;
 use phases::{Shape, Shop};
@@ -46,8 +46,8 @@ fn read_line(line: &[u8], fields: &mut [u32]) -> Option<usize>
 }
 
 // A line of just so many numbers.
-fn row_in<const N: usize>(line: &[u8]) -> Option<[u32; N]>
-    ensures { result ≡ row_of N line.now }
+fn numbers_in<const N: usize>(line: &[u8]) -> Option<[u32; N]>
+    ensures { result ≡ numbers_line N line.now }
 {
     let mut numbers = [0; N];
     let count = read_line(line, &mut numbers)?;
@@ -67,7 +67,7 @@ fn shop_in(line: &[u8]) -> Option<Shop>
         time_leaves,
         index_branches,
         index_leaves,
-    ] = row_in::<8>(line)?;
+    ] = numbers_in::<8>(line)?;
     Some(Shop {
         stations,
         width,
@@ -88,7 +88,7 @@ fn shop_in(line: &[u8]) -> Option<Shop>
 fn message_in(line: &[u8]) -> Option<Message>
     ensures { result ≡ message_line line.now }
 {
-    let [station, arrival, relative, length] = row_in::<4>(line)?;
+    let [station, arrival, relative, length] = numbers_in::<4>(line)?;
     Some(Message {
         station,
         arrival,
