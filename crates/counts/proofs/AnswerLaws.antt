@@ -17,7 +17,7 @@ use Rattle.counts.specs.Counting.{Holds}
 use Rattle.counts.specs.Answer.{count_verdict}
 
 module _ (m t k : ℕ) (e : count_verdict m t k ≡ granted) where
-  granted_tree : Grown m t
+  pub granted_tree : Grown m t
   granted_tree = grown m t (then_granted (tree_verdict m t) (ask (leb k t) ActiveCount granted) e).0
 
   granted_k : k ≤ t

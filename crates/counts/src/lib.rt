@@ -81,8 +81,8 @@ fn paired(one: &[u16], rest: &[u16]) -> Counts
 {
     let len = one.len() + rest.len() - 1;
     let mut places = [0; 1025];
-    for k in 0..len {
-        places[k] = best_pair(one, rest, k) as u16;
+    for (k, place) in places[..len].iter_mut().enumerate() {
+        *place = best_pair(one, rest, k) as u16;
     }
     Counts { len, places }
 }
