@@ -11,7 +11,7 @@ use Rattle.std.specs.Prelude.{Result, Ok, Err}
 use Rattle.refusals.specs.declared.Refusal.{Refusal}
 use Rattle.refusals.specs.declared.Refusal.TheVariants.{Messages}
 use Rattle.refusals.specs.Numbers.{Verdict, ask, and_then}
-use Rattle.refusals.proofs.Verdicts.{both, fails_behind}
+use Rattle.refusals.proofs.Verdicts.{both, fails_behind, number_some}
 use Rattle.trees.specs.Shape.{tree_verdict}
 use Rattle.messages.specs.declared.Message.{Message}
 use Rattle.messages.specs.Message.{blank}
@@ -23,7 +23,7 @@ use Rattle.records.proofs.Laws.{take_over, over_front}
 use Rattle.phases.specs.declared.Shop.{Shop}
 use Rattle.inputs.specs.Inputs.{same_lengths, all_fit, shop_verdict, budget_verdict, run_verdict, table_of}
 use Rattle.wire.specs.declared.Outcome.{Outcome}
-use Rattle.wire.specs.Answer.{reading_by, marks, marks_by, messages_by, log_by, ran_of}
+use Rattle.wire.specs.Answer.{Reading, reading_of, reading_by, marks, marks_by, messages_by, log_by, ran_of}
 use Rattle.wire.specs.Promise.{ListPromise, RunPromise}
 use Rattle.wire.proofs.KeptLaws.{same_records}
 
@@ -134,3 +134,17 @@ module _ (S : Shop) (owners stations arrivals relatives lengths sent log : List 
         slots =
             ap (laid_over sent) (map-append (λ m. m.sent) ms' (drop (length stations) table))
             ∙ over_front sent (marks ms') (marks (drop (length stations) table)) (length-map ms' (λ m. m.sent) ∙ ap length Q.left ∙ length_left (verdict true) ∙ many ∙ sym marked_all)
+
+  -- a list that is whole and refused stays, and so do its fields
+  pub run_denied : true ≡ (leb (length stations) 512 && same) → (table : List Message) → table ≡ laid_over (replicate 512 blank) list
+      → (k : Refusal) (ms' : List Message) (log' : List ℕ) → ListPromise S owners true (take (length stations) table) log budget (Err k) ms' log'
+      → RunPromise S owners stations arrivals relatives lengths sent log budget (Err k) sent log'
+  run_denied whole table loaded k ms' log' P =
+      record { read = Q.read; marked = sym (kept (run_verdict S owners same list budget (length log)) Q.read); logged = Q.logged }
+    where
+      Q : RunPromise S owners stations arrivals relatives lengths sent log budget (Err k) (laid_over sent (map (λ m. m.sent) (ms' ++ drop (length stations) table))) log'
+      Q = run_whole (Err k) ms' log' whole table loaded P _ refl
+
+      kept : (v : Verdict) → reading_of (Err k) ≡ reading_by v (ran_of S owners list budget) → marks_by v (ran_of S owners list budget) sent ≡ sent
+      kept (Ok _) e = absurd (omega (arith, number_some k, ap (λ (r : Reading). r.refusal) e))
+      kept (Err j) e = refl

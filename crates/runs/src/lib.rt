@@ -53,7 +53,7 @@ pub fn run_fields(
     }
     let mut table = records::load(stations, arrivals, relatives, lengths, sent);
     let list = &mut table[..stations.len()];
-    let answer = wire::run(shop, owners, true, list, log, budget);
+    let outcome = wire::run(shop, owners, true, list, log, budget)?;
     records::store(sent, &table);
-    answer
+    Ok(outcome)
 }
