@@ -4,11 +4,11 @@
 --   Stepped S ms t σ r ms'    what one event leaves: its row, the state and the messages after it
 --   SendReady c ms i          where a message is sent, its number lies within the list
 --   RowReady σ message used   the row's numbers fit
-use Rattle.std.specs.Prelude.{◌≡◌, List, ℕ, ◌≤◌, ◌<◌, length}
+use Rattle.std.specs.Prelude.{◌≡◌, List, ℕ, ◌≤◌, ◌<◌, length, get_or}
 use Rattle.rows.specs.declared.Channel.{Channel}
 use Rattle.rows.specs.declared.Channel.TheVariants.{Silence, Busy, Collision}
 use Rattle.messages.specs.declared.Message.{Message}
-use Rattle.messages.specs.Lists.{TimedList}
+use Rattle.messages.specs.Message.{blank}
 use Rattle.phases.specs.declared.Shop.{Shop}
 use Rattle.phases.specs.declared.State.{State}
 use Rattle.phases.specs.Work.{Sound, Within}
@@ -24,7 +24,7 @@ pub record StepReady (S : Shop) (ms : List Message) (t : Tally) (σ : State) : T
   pub few : t.count ≤ 32
   pub number : t.message < 65536
   pub inside : t.count ≡ 1 → t.message < length ms
-  pub timed : TimedList ms
+  pub short : t.count ≡ 1 → (get_or ms t.message blank).length ≤ 1000
 
 pub record Stepped (S : Shop) (ms : List Message) (t : Tally) (σ : State) (r : Step) (ms' : List Message) : Type 0 where
   pub row : r.row ≡ (event_by S ms σ t).row

@@ -31,7 +31,7 @@ fn print_run(shop: Shop, owners: &[u32], list: &mut [Message], output: &mut [u8]
     ensures { Printed output.old (run_text shop owners.now list.old) result output.new }
 {
     let mut log = [0; LOG_ROOM];
-    let outcome = wire::run(shop, owners, true, list, &mut log, BUDGET);
+    let outcome = wire::run_list(shop, owners, true, list, &mut log, BUDGET);
     printing::put_report(output, &log, outcome)
 }
 

@@ -49,11 +49,11 @@ pub fn run_fields(
 {
     if !is_whole(stations, arrivals, relatives, lengths, sent) {
         // No record has a part in the refusal.
-        return wire::run(shop, owners, false, &mut [], log, budget);
+        return wire::run_list(shop, owners, false, &mut [], log, budget);
     }
-    let mut table = records::load(stations, arrivals, relatives, lengths, sent);
+    let mut table = records::records_of(stations, arrivals, relatives, lengths, sent);
     let list = &mut table[..stations.len()];
-    let outcome = wire::run(shop, owners, true, list, log, budget)?;
-    records::store(sent, &table);
+    let outcome = wire::run_list(shop, owners, true, list, log, budget)?;
+    records::put_slots(sent, &table);
     Ok(outcome)
 }

@@ -31,5 +31,5 @@ pub fn run_shop(
     ensures { ShopPromise shop owners.now messages.old log.old budget result
         messages.new log.new }
 {
-    wire::run(shop, owners, true, messages, log, budget)
+    wire::run_list(shop, owners, true, messages, log, budget)
 }

@@ -66,7 +66,7 @@ module _ (S : Shop) (sound : Sound S) (table : List ℕ) (ms : List Message) (σ
     few = omega (arith, counts, contenders_few S table ms σ, sound.stations);
     number = small;
     inside = λ e. inside (omega arith);
-    timed = g.runnable.timed;
+    short = λ e. (g.runnable.timed t.message (inside (omega (arith, e)))).short;
   }
 
   module _ (r : Step) (ms' : List Message) (s : Stepped S ms t σ r ms') where

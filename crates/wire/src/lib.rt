@@ -1,5 +1,5 @@
 // Wire: the run of a shop, slot by slot, on plain numbers and a lent list of messages (docs/RULES.md, section 10).
-// `run` is the call: it takes whatever it is given and refuses what is bad.
+// `run_list` is what the calls over records and over fields make: it takes whatever it is given and refuses what is bad.
 // Uses refusals, rows, trees, messages, phases, contention, inputs and events.
 #![tactic(auto)]
 
@@ -93,7 +93,7 @@ fn run_events(
 
 // A run of the shop: a row for each event in the log, the slot of sending of each message that was sent, and the
 // closing figures; or a refusal, and list and log as they came. `whole` is whether the list of messages came whole.
-pub fn run(
+pub fn run_list(
     shop: Shop,
     owners: &[u32],
     whole: bool,

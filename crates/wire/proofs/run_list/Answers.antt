@@ -2,7 +2,7 @@
 use Rattle.std.proofs.Common.{sym, ◌∙◌, arith}
 use Rattle.messages.proofs.ListLaws.{runnable_fresh}
 use Rattle.inputs.proofs.GrantLaws.{allowed}
-use Rattle.wire.proofs.run.Goals as goal
+use Rattle.wire.proofs.run_list.Goals as goal
 
 pub run_events-events-requires : goal.run_events-events-requires
 run_events-events-requires c =
