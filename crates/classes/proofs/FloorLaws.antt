@@ -8,7 +8,6 @@ use lib.Dec.{T}
 use lib.IntN.{ℤ, pos, negsuc, neg_ℤ, ◌-ℤ◌}
 use lib.Signed.{quot_z, rem_z, lt_z}
 use borrow.Author.Tests.{ltb-true}
-use Rattle.std.proofs.lemmas.Int.{ints, to_z-of_z}
 use Rattle.classes.specs.Class.{floor_of}
 
 -- the quotient is the q with n between q · c and q · c + c
@@ -56,6 +55,3 @@ floor_down (negsuc a) c pc t = left a c (suc a % c) pc refl t
 pub floor_same : (d : ℤ) (c : ℕ) → 0 < c → lt_z (rem_z d (pos c)) (pos 0) ≡ false → quot_z d (pos c) ≡ floor_of d c
 floor_same (pos a) c pc t = refl
 floor_same (negsuc a) c pc t = even a c (suc a % c) pc refl t
-
--- with the library's laws on what the machine reads back
-pub ruleset rounded_down = (ints, to_z-of_z, floor_down, floor_same)

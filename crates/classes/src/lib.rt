@@ -12,7 +12,6 @@ ghost use Rattle.classes.specs.Promise.{ClassPromise};
 use refusals::{Refusal, Verdict};
 
 // distance / width, rounded down towards minus infinity: the machine's quotient goes towards zero.
-#[tactic(auto, using(crate::proofs::FloorLaws::rounded_down))]
 fn floor_div(distance: i64, width: u32) -> i64
     requires { 0 < width }
     ensures { result ≡ floor_of distance width }
