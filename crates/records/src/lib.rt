@@ -18,7 +18,7 @@ fn number_at(field: &[u32], i: usize) -> u32
 }
 
 // A record for each station, as far as there is room, in a table that is zero behind them.
-pub fn load(
+pub fn records_of(
     stations: &[u32],
     arrivals: &[u32],
     relatives: &[u32],
@@ -42,7 +42,7 @@ pub fn load(
 }
 
 // The slots of sending of the table's records; a list that is longer keeps its own behind them.
-pub fn store(sent: &mut [u32], table: &[Message])
+pub fn put_slots(sent: &mut [u32], table: &[Message])
     ensures { sent.new ≡ laid_over sent.old (map (λ m. m.sent) table.now) }
 {
     for i in 0..sent.len().min(table.len()) {

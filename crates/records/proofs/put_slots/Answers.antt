@@ -4,7 +4,7 @@ use Rattle.messages.specs.declared.Message.{Message}
 use Rattle.messages.specs.Message.{blank}
 use Rattle.std.proofs.lemmas.List.{get_or-map, length-map}
 use Rattle.records.proofs.Laws.{over_more, over_all}
-use Rattle.records.proofs.store.Goals as goal
+use Rattle.records.proofs.put_slots.Goals as goal
 
 pub loop-i-preserved : goal.loop-i-preserved
 loop-i-preserved c =

@@ -4,7 +4,7 @@ use Rattle.messages.specs.Message.{blank}
 use Rattle.messages.specs.Lists.{listed}
 use Rattle.messages.proofs.ListLaws.{length_listed, listed_at}
 use Rattle.records.proofs.Laws.{over_more, over_all}
-use Rattle.records.proofs.load.Goals as goal
+use Rattle.records.proofs.records_of.Goals as goal
 
 pub loop-i-preserved : goal.loop-i-preserved
 loop-i-preserved c =
