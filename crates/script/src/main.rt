@@ -1,12 +1,12 @@
 // Script: what a shop's evening looks like. Four messages are queued and run, a station is withdrawn, its places are
 // queued anew, and the list is run again. What it prints is held to docs/RULES.md by the file stdout.
 // Uses refusals, messages, phases, wire, withdrawals and shop.
+// A write that fails is passed over.
 #![tactic(auto)]
 
 use messages::Message;
 use phases::{Shape, Shop};
 use refusals::Refusal;
-use std::io;
 use wire::Outcome;
 use withdrawals::Withdrawn;
 
@@ -38,69 +38,70 @@ fn queued(station: u32, arrival: u32, relative: u32, length: u32) -> Message {
 }
 
 // Station, arrival, relative deadline, length and slot of sending.
-fn show_list(rt: &impl Print, list: &[Message]) -> io::Result<()> {
+fn show_list(rt: &impl Print, list: &[Message]) {
     for message in list {
-        println!(rt;
+        let _ = println!(rt;
             "{} {} {} {} {}",
             message.station, message.arrival, message.relative, message.length, message.sent
-        )?;
+        );
     }
-    Ok(())
 }
 
 // How the run ended, with its events, present slot, sent and late.
-fn show_outcome(rt: &impl Print, answer: Result<Outcome, Refusal>) -> io::Result<()> {
+fn show_outcome(rt: &impl Print, answer: Result<Outcome, Refusal>) {
     let (ending, figures) = match answer {
         Ok(Outcome::Done(figures)) => ("done", figures),
         Ok(Outcome::Spent(figures)) => ("budget", figures),
-        Err(refusal) => return println!(rt; "{refusal}"),
+        Err(refusal) => {
+            let _ = println!(rt; "{refusal}");
+            return;
+        }
     };
-    println!(rt;
+    let _ = println!(rt;
         "{ending} {} {} {} {}",
         figures.events, figures.slot, figures.sent, figures.late
-    )
+    );
 }
 
-fn show_withdrawal(rt: &impl Print, answer: Result<Withdrawn, Refusal>) -> io::Result<()> {
+fn show_withdrawal(rt: &impl Print, answer: Result<Withdrawn, Refusal>) {
     match answer {
-        Ok(Withdrawn { kept, withdrawn }) => println!(rt; "kept {kept} withdrawn {withdrawn}"),
-        Err(refusal) => println!(rt; "{refusal}"),
+        Ok(Withdrawn { kept, withdrawn }) => {
+            let _ = println!(rt; "kept {kept} withdrawn {withdrawn}");
+        }
+        Err(refusal) => {
+            let _ = println!(rt; "{refusal}");
+        }
     }
 }
 
-fn run_and_show(rt: &impl Print, list: &mut [Message]) -> io::Result<()> {
+fn run_and_show(rt: &impl Print, list: &mut [Message]) {
     let mut log = [0; 512];
     let answer = shop::run_shop(TWO_TILLS, &[0, 1], list, &mut log, 32);
-    show_outcome(rt, answer)?;
-    show_list(rt, list)
+    show_outcome(rt, answer);
+    show_list(rt, list);
 }
 
-fn withdraw_and_show(rt: &impl Print, list: &mut [Message], station: u32) -> io::Result<()> {
+fn withdraw_and_show(rt: &impl Print, list: &mut [Message], station: u32) {
     let answer = shop::withdraw(list, station);
-    show_withdrawal(rt, answer)?;
-    show_list(rt, list)
+    show_withdrawal(rt, answer);
+    show_list(rt, list);
 }
 
-fn show_evening(rt: &impl Print) -> io::Result<()> {
+fn main(rt: HostRuntime) {
     let mut list = [
         queued(0, 0, 25, 3),
         queued(1, 0, 28, 2),
         queued(0, 0, 100, 1),
         queued(1, 0, 200, 2),
     ];
-    println!(rt; "a run: two tills, four messages")?;
-    run_and_show(rt, &mut list)?;
-    println!(rt; "\ntill 1 is withdrawn")?;
-    withdraw_and_show(rt, &mut list, 1)?;
-    println!(rt; "\na run: the kept messages, and two further ones of till 0")?;
+    let _ = println!(rt; "a run: two tills, four messages");
+    run_and_show(&rt, &mut list);
+    let _ = println!(rt; "\ntill 1 is withdrawn");
+    withdraw_and_show(&rt, &mut list, 1);
+    let _ = println!(rt; "\na run: the kept messages, and two further ones of till 0");
     list[2] = queued(0, 2, 2, 2);
     list[3] = queued(0, 8, 20, 1);
-    run_and_show(rt, &mut list)?;
-    println!(rt; "\na till 32 is withdrawn")?;
-    withdraw_and_show(rt, &mut list, 32)
-}
-
-// Where a write fails, the rest goes unwritten, and the program ends as ever.
-fn main(rt: HostRuntime) {
-    let _ = show_evening(&rt);
+    run_and_show(&rt, &mut list);
+    let _ = println!(rt; "\na till 32 is withdrawn");
+    withdraw_and_show(&rt, &mut list, 32);
 }
