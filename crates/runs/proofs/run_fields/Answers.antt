@@ -1,5 +1,5 @@
 -- What the run over the records leaves is what the fields hold.
-use Rattle.std.proofs.Common.{true, subst, sym, take, length}
+use Rattle.std.proofs.Common.{true, subst, take, length}
 use Rattle.std.specs.Prelude.{Result}
 use Rattle.std.proofs.lemmas.Result.{err_from_is_err_and}
 use Rattle.refusals.specs.declared.Refusal.{Refusal}
