@@ -1,10 +1,10 @@
--- One list laid over another: one element more, all of it, and what stands at the front.
-use mathlib.Core.Path.{◌≡◌, refl, ap}
+-- One list laid over another: one place more, all of it, and what stands at the front.
+use mathlib.Core.Path.{◌≡◌, refl, ap, sym, ◌∙◌}
 use mathlib.Core.List.{List, [], ◌∷◌, ◌++◌}
 use Prim.Native.Nat.{ℕ, zero, suc, ◌+◌, ◌<◌, ◌≤◌, min}
-use native.Mathlib.Numerals.{add-one}
 use native.Mathlib.Omega.{arith}
-use lib.ListN.{length, take, get_or, set}
+use lib.ListN.{length, take, drop, get_or, set}
+use Rattle.std.proofs.lemmas.List.{take_all, take_more, take_more_set}
 use Rattle.records.specs.Table.{laid_over}
 
 module _ {A : Type 0} where
@@ -12,24 +12,26 @@ module _ {A : Type 0} where
   over_nil [] = refl
   over_nil (y ∷ ys) = refl
 
-  -- one element more is laid over
-  over_suc : (xs ys : List A) (i : ℕ) (d : A) → i < length ys → set (laid_over xs (take i ys)) i (get_or ys i d) ≡ laid_over xs (take (suc i) ys)
-  over_suc xs [] i d h = absurd (omega arith)
-  over_suc [] (y ∷ ys) zero d h = refl
-  over_suc (x ∷ xs) (y ∷ ys) zero d h = refl
-  over_suc [] (y ∷ ys) (suc i) d h = refl
-  over_suc (x ∷ xs) (y ∷ ys) (suc i) d h = ap (λ (l : List A). y ∷ l) (over_suc xs ys i d (omega arith))
+  -- one place more holds what it is to hold
+  pub place_more : (out target : List A) (i : ℕ) (d : A) → i < length out → i < length target → take i out ≡ take i target
+      → take (i + 1) (set out i (get_or target i d)) ≡ take (i + 1) target
+  place_more out target i d h g e =
+      take_more_set out i (get_or target i d) h ∙ ap (λ (l : List A). l ++ (get_or target i d ∷ [])) e ∙ sym (take_more target i d g)
 
-  pub over_more : (xs ys : List A) (i : ℕ) (d : A) → i < length ys → set (laid_over xs (take i ys)) i (get_or ys i d) ≡ laid_over xs (take (i + 1) ys)
-  over_more xs ys i d h = rw add-one (over_suc xs ys i d h)
+  -- as many as there is room for, and what stands behind them
+  over_parts : (xs ys : List A) (n : ℕ) → n ≡ min (length xs) (length ys) → take n ys ++ drop n xs ≡ laid_over xs ys
+  over_parts xs [] zero h = refl
+  over_parts xs [] (suc n) h = absurd (omega arith)
+  over_parts [] (y ∷ ys) zero h = refl
+  over_parts [] (y ∷ ys) (suc n) h = absurd (omega arith)
+  over_parts (x ∷ xs) (y ∷ ys) zero h = absurd (omega arith)
+  over_parts (x ∷ xs) (y ∷ ys) (suc n) h = ap (λ (l : List A). y ∷ l) (over_parts xs ys n (omega arith))
 
-  -- as many as there is room for are all
-  pub over_all : (xs ys : List A) (n : ℕ) → min (length xs) (length ys) ≤ n → laid_over xs (take n ys) ≡ laid_over xs ys
-  over_all xs [] zero h = refl
-  over_all xs [] (suc n) h = refl
-  over_all [] (y ∷ ys) n h = over_nil (take n (y ∷ ys))
-  over_all (x ∷ xs) (y ∷ ys) zero h = absurd (omega arith)
-  over_all (x ∷ xs) (y ∷ ys) (suc n) h = ap (λ (l : List A). y ∷ l) (over_all xs ys n (omega arith))
+  -- the places in front are filled to their end
+  pub over_filled : (xs ys out : List A) (n i : ℕ) → n ≡ min (length xs) (length ys) → i ≡ n → length out ≡ n → take i out ≡ take i ys
+      → out ++ drop n xs ≡ laid_over xs ys
+  over_filled xs ys out n i m e len f =
+      ap (λ (l : List A). l ++ drop n xs) (sym (take_all n out (omega arith)) ∙ rw e at f) ∙ over_parts xs ys n m
 
   -- one that is not longer stands at the front
   pub take_over : (xs ys : List A) → length ys ≤ length xs → take (length ys) (laid_over xs ys) ≡ ys

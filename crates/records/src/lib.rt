@@ -29,8 +29,9 @@ pub fn records_of(
         relatives.now lengths.now sent.now) }
 {
     let mut table = [BLANK; 512];
-    for i in 0..stations.len().min(512) {
-        table[i] = Message {
+    let count = stations.len().min(512);
+    for (i, place) in table[..count].iter_mut().enumerate() {
+        *place = Message {
             station: stations[i],
             arrival: number_at(arrivals, i),
             relative: number_at(relatives, i),
@@ -45,7 +46,8 @@ pub fn records_of(
 pub fn put_slots(sent: &mut [u32], table: &[Message])
     ensures { sent.new ≡ laid_over sent.old (map (λ m. m.sent) table.now) }
 {
-    for i in 0..sent.len().min(table.len()) {
-        sent[i] = table[i].sent;
+    let count = sent.len().min(table.len());
+    for (i, slot) in sent[..count].iter_mut().enumerate() {
+        *slot = table[i].sent;
     }
 }

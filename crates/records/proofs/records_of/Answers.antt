@@ -1,23 +1,25 @@
--- One record more is laid over the zeros; in the end all for which there is room.
-use Rattle.std.proofs.Common.{◌∙◌, arith, replicate}
+-- One place more holds its record; behind the last the table is blank.
+use Rattle.std.proofs.Common.{arith, replicate}
+use Rattle.std.proofs.lemmas.Grind.{common_steps}
 use Rattle.messages.specs.Message.{blank}
 use Rattle.messages.specs.Lists.{listed}
 use Rattle.messages.proofs.ListLaws.{length_listed, listed_at}
-use Rattle.records.proofs.Laws.{over_more, over_all}
+use Rattle.records.proofs.Laws.{place_more, over_filled}
 use Rattle.records.proofs.records_of.Goals as goal
 
 pub loop-i-preserved : goal.loop-i-preserved
 loop-i-preserved c =
     let l = c.loop-i in
     let s = c.args in
-    let there = listed_at s.stations.now s.arrivals.now s.relatives.now s.lengths.now s.sent.now l.i (omega arith) in
-    let more = over_more (replicate 512 blank) (listed s.stations.now s.arrivals.now s.relatives.now s.lengths.now s.sent.now) l.i blank
-    (omega (arith, length_listed s.stations.now s.arrivals.now s.relatives.now s.lengths.now s.sent.now)) in
+    let many = length_listed s.stations.now s.arrivals.now s.relatives.now s.lengths.now s.sent.now in
+    let there = listed_at s.stations.now s.arrivals.now s.relatives.now s.lengths.now s.sent.now l.i (grind (arith, common_steps)) in
+    let more = place_more l.place-items (listed s.stations.now s.arrivals.now s.relatives.now s.lengths.now s.sent.now) l.i blank
+    (grind (arith, common_steps)) (grind (arith, common_steps)) l.invariant in
     cc
 
 pub returns : goal.returns
 returns c =
     let s = c.args in
-    c.loop-i.invariant
-    ∙ over_all (replicate 512 blank) (listed s.stations.now s.arrivals.now s.relatives.now s.lengths.now s.sent.now) c.loop-i.i
-    (omega (arith, length_listed s.stations.now s.arrivals.now s.relatives.now s.lengths.now s.sent.now))
+    let many = length_listed s.stations.now s.arrivals.now s.relatives.now s.lengths.now s.sent.now in
+    over_filled (replicate 512 blank) (listed s.stations.now s.arrivals.now s.relatives.now s.lengths.now s.sent.now) c.loop-i.place-items c.min-count.result c.loop-i.i
+    (grind (arith, common_steps)) (grind (arith, common_steps)) (grind (arith, common_steps)) (c.loop-i.invariant)
