@@ -1,5 +1,5 @@
 // Figures: the answers of the calls as structs of numbers, as they cross to C: a refusal's number, 0 for none, and the
-// figures, 0 where it is refused.
+// figures, 0 where it is refused. Each struct is made by `From` of its call's answer.
 // Uses refusals, searches, counts, placements, classes, wire and withdrawals for the answers.
 #![tactic(auto)]
 
@@ -81,37 +81,43 @@ fn refusal_number<T>(answer: &Result<T, Refusal>) -> u32
     }
 }
 
-pub fn search_numbers(answer: Result<Searched, Refusal>) -> SearchNumbers
-    ensures { search_numbers result ≡ figures_of_search answer }
-{
-    let searched = answer.unwrap_or(Searched {
-        rows: 0,
-        silences: 0,
-        collisions: 0,
-    });
-    SearchNumbers {
-        refusal: refusal_number(&answer),
-        rows: searched.rows,
-        silences: searched.silences,
-        collisions: searched.collisions,
+impl From<Result<Searched, Refusal>> for SearchNumbers {
+    ghost from_gives = { λ answer numbers. search_numbers numbers ≡ figures_of_search answer };
+
+    fn from(answer: Result<Searched, Refusal>) -> SearchNumbers {
+        let searched = answer.unwrap_or(Searched {
+            rows: 0,
+            silences: 0,
+            collisions: 0,
+        });
+        SearchNumbers {
+            refusal: refusal_number(&answer),
+            rows: searched.rows,
+            silences: searched.silences,
+            collisions: searched.collisions,
+        }
     }
 }
 
-pub fn count_numbers(answer: Result<u32, Refusal>) -> CountNumbers
-    ensures { count_numbers result ≡ figures_of_count answer }
-{
-    CountNumbers {
-        refusal: refusal_number(&answer),
-        slots: answer.unwrap_or(0),
+impl From<Result<u32, Refusal>> for CountNumbers {
+    ghost from_gives = { λ answer numbers. count_numbers numbers ≡ figures_of_count answer };
+
+    fn from(answer: Result<u32, Refusal>) -> CountNumbers {
+        CountNumbers {
+            refusal: refusal_number(&answer),
+            slots: answer.unwrap_or(0),
+        }
     }
 }
 
-pub fn class_numbers(answer: Result<i64, Refusal>) -> ClassNumbers
-    ensures { class_numbers result ≡ figures_of_class answer }
-{
-    ClassNumbers {
-        class: answer.unwrap_or(0),
-        refusal: refusal_number(&answer),
+impl From<Result<i64, Refusal>> for ClassNumbers {
+    ghost from_gives = { λ answer numbers. class_numbers numbers ≡ figures_of_class answer };
+
+    fn from(answer: Result<i64, Refusal>) -> ClassNumbers {
+        ClassNumbers {
+            class: answer.unwrap_or(0),
+            refusal: refusal_number(&answer),
+        }
     }
 }
 
@@ -121,40 +127,44 @@ pub fn placement_number(answer: Result<(), Refusal>) -> u32
     refusal_number(&answer)
 }
 
-pub fn run_numbers(answer: Result<Outcome, Refusal>) -> RunNumbers
-    ensures { run_reading result ≡ reading_of answer }
-{
-    let nothing = Figures {
-        events: 0,
-        slot: 0,
-        sent: 0,
-        late: 0,
-    };
-    let (done, figures) = match answer {
-        Ok(Outcome::Done(figures)) => (true, figures),
-        Ok(Outcome::Spent(figures)) => (false, figures),
-        Err(_) => (false, nothing),
-    };
-    RunNumbers {
-        refusal: refusal_number(&answer),
-        done,
-        events: figures.events,
-        slot: figures.slot,
-        sent: figures.sent,
-        late: figures.late,
+impl From<Result<Outcome, Refusal>> for RunNumbers {
+    ghost from_gives = { λ answer numbers. run_reading numbers ≡ reading_of answer };
+
+    fn from(answer: Result<Outcome, Refusal>) -> RunNumbers {
+        let nothing = Figures {
+            events: 0,
+            slot: 0,
+            sent: 0,
+            late: 0,
+        };
+        let (done, figures) = match answer {
+            Ok(Outcome::Done(figures)) => (true, figures),
+            Ok(Outcome::Spent(figures)) => (false, figures),
+            Err(_) => (false, nothing),
+        };
+        RunNumbers {
+            refusal: refusal_number(&answer),
+            done,
+            events: figures.events,
+            slot: figures.slot,
+            sent: figures.sent,
+            late: figures.late,
+        }
     }
 }
 
-pub fn withdrawal_numbers(answer: Result<Withdrawn, Refusal>) -> WithdrawalNumbers
-    ensures { withdrawal_numbers result ≡ figures_of_withdrawal answer }
-{
-    let counts = answer.unwrap_or(Withdrawn {
-        kept: 0,
-        withdrawn: 0,
-    });
-    WithdrawalNumbers {
-        refusal: refusal_number(&answer),
-        kept: counts.kept,
-        withdrawn: counts.withdrawn,
+impl From<Result<Withdrawn, Refusal>> for WithdrawalNumbers {
+    ghost from_gives = { λ answer numbers. withdrawal_numbers numbers ≡ figures_of_withdrawal answer };
+
+    fn from(answer: Result<Withdrawn, Refusal>) -> WithdrawalNumbers {
+        let counts = answer.unwrap_or(Withdrawn {
+            kept: 0,
+            withdrawn: 0,
+        });
+        WithdrawalNumbers {
+            refusal: refusal_number(&answer),
+            kept: counts.kept,
+            withdrawn: counts.withdrawn,
+        }
     }
 }
