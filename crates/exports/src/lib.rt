@@ -23,7 +23,7 @@ use phases::Shop;
 pub extern "C" fn mirvuttu_search(m: u32, t: u32, leaves: &[u8], log: &mut [u8]) -> SearchNumbers
     ensures { SearchExported m t leaves.now log.old result log.new }
 {
-    figures::search_numbers(searches::search(m, t, leaves, log))
+    SearchNumbers::from(searches::search(m, t, leaves, log))
 }
 
 // The worst count of k active leaves.
@@ -31,7 +31,7 @@ pub extern "C" fn mirvuttu_search(m: u32, t: u32, leaves: &[u8], log: &mut [u8])
 pub extern "C" fn mirvuttu_worst_count(m: u32, t: u32, k: u32) -> CountNumbers
     ensures { CountExported m t k result }
 {
-    figures::count_numbers(counts::worst_count(m, t, k))
+    CountNumbers::from(counts::worst_count(m, t, k))
 }
 
 // A placement of k active leaves in the lent list; the answer is a refusal's number, 0 for none.
@@ -52,7 +52,7 @@ pub extern "C" fn mirvuttu_class(
 ) -> ClassNumbers
     ensures { ClassExported deadline offset reference width result }
 {
-    figures::class_numbers(classes::class_answer(deadline, offset, reference, width))
+    ClassNumbers::from(classes::class_answer(deadline, offset, reference, width))
 }
 
 // A run over messages that are held field by field.
@@ -75,7 +75,7 @@ pub extern "C" fn mirvuttu_run_fields(
     let answer = runs::run_fields(
         shop, owners, stations, arrivals, relatives, lengths, sent, log, budget,
     );
-    figures::run_numbers(answer)
+    RunNumbers::from(answer)
 }
 
 // A run over the lent list of records.
@@ -90,7 +90,7 @@ pub extern "C" fn mirvuttu_run(
     ensures { ShopExported shop owners.now messages.old log.old budget result
         messages.new log.new }
 {
-    figures::run_numbers(shop::run_shop(shop, owners, messages, log, budget))
+    RunNumbers::from(shop::run_shop(shop, owners, messages, log, budget))
 }
 
 // A withdrawal from the lent list of records.
@@ -98,7 +98,7 @@ pub extern "C" fn mirvuttu_run(
 pub extern "C" fn mirvuttu_withdraw(messages: &mut [Message], station: u32) -> WithdrawalNumbers
     ensures { WithdrawalExported station messages.old result messages.new }
 {
-    figures::withdrawal_numbers(shop::withdraw(messages, station))
+    WithdrawalNumbers::from(shop::withdraw(messages, station))
 }
 
 // The program's answer to a text: how many bytes were written into the output.
