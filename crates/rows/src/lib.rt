@@ -8,7 +8,8 @@
 ghost use Rattle.std.specs.Prelude.{◌≡◌, ◌+◌, ◌*◌, ◌≤◌, length};
 ghost use Rattle.rows.specs.Log.{phase_number, state_number, row_bytes, over};
 
-// No message: what a row holds where nothing was sent.
+// No message: what a row holds where nothing was sent. It is a number and no `None`, as a row holds what its bytes
+// in the log say, and there a message has two bytes and no mark beside them.
 pub const NO_MESSAGE: u16 = 65535;
 
 // The part of the protocol that a slot belongs to.
@@ -108,6 +109,5 @@ pub fn put_row(log: &mut [u8], at: usize, row: Row)
     requires { 16 * at + 16 ≤ length log.old }
     ensures { log.new ≡ over log.old (16 * at) (row_bytes row) }
 {
-    let bytes = row_bytes(row);
-    put_bytes(log, 16 * at, &bytes);
+    put_bytes(log, 16 * at, &row_bytes(row));
 }
