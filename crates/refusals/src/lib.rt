@@ -31,24 +31,33 @@ pub enum Refusal {
 pub type Verdict = Result<(), Refusal>;
 
 // The number that a script is told.
+impl From<Refusal> for u32 {
+    ghost from_gives = { λ refusal number. number ≡ number_of refusal };
+
+    fn from(refusal: Refusal) -> u32 {
+        match refusal {
+            Refusal::Branching => 1,
+            Refusal::LeafCount => 2,
+            Refusal::LeafList => 3,
+            Refusal::LeafByte => 4,
+            Refusal::ActiveCount => 5,
+            Refusal::Stations => 6,
+            Refusal::ClassNumbers => 7,
+            Refusal::IndexTable => 8,
+            Refusal::Messages => 9,
+            Refusal::Budget => 10,
+            Refusal::LogRoom => 11,
+            Refusal::ReferenceTime => 12,
+            Refusal::Text => 13,
+        }
+    }
+}
+
+// The same number, by its name.
 pub fn number(refusal: Refusal) -> u32
     ensures { result ≡ number_of refusal }
 {
-    match refusal {
-        Refusal::Branching => 1,
-        Refusal::LeafCount => 2,
-        Refusal::LeafList => 3,
-        Refusal::LeafByte => 4,
-        Refusal::ActiveCount => 5,
-        Refusal::Stations => 6,
-        Refusal::ClassNumbers => 7,
-        Refusal::IndexTable => 8,
-        Refusal::Messages => 9,
-        Refusal::Budget => 10,
-        Refusal::LogRoom => 11,
-        Refusal::ReferenceTime => 12,
-        Refusal::Text => 13,
-    }
+    u32::from(refusal)
 }
 
 impl fmt::Display for Refusal {
