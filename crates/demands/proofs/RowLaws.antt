@@ -61,10 +61,10 @@ lasting_same ms ns same l = record {
 
 -- neither silence nor a collision is a sending
 silence_other : Silence ≡ Busy → ⊥
-silence_other e = let z : ◌≡◌ {A = ℕ} 0 1 = cc in omega arith
+silence_other e = cc
 
 collision_other : Collision ≡ Busy → ⊥
-collision_other e = let z : ◌≡◌ {A = ℕ} 0 1 = cc in omega arith
+collision_other e = cc
 
 -- where the row r is written in the slot the messages ms become ns: nothing is sent, or a message that was unsent
 abbrev Sends : ℕ → Row → List Message → List Message → Type 0

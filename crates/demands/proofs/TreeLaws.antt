@@ -36,8 +36,8 @@ stands_in_tree S (Static a n p) w h = h
 
 -- a collision wants two contenders
 collides_two : (n : ℕ) → channel_of n ≡ Collision → 2 ≤ n
-collides_two zero e = let z : ◌≡◌ {A = ℕ} 0 1 = cc in absurd (omega arith)
-collides_two (suc zero) e = let z : ◌≡◌ {A = ℕ} 0 1 = cc in absurd (omega arith)
+collides_two zero e = cc
+collides_two (suc zero) e = cc
 collides_two (suc (suc n)) e = omega arith
 
 -- EACH ROW IS OF A SUBTREE
