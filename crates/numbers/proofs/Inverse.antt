@@ -77,7 +77,7 @@ written_behind v (b ∷ bytes) h e =
 
 -- WRITING UNDOES READING, where no leading zero was read
 pub written_read : (bytes : List ℕ) → all_digits bytes ≡ true → is_plain bytes ≡ true → decimal (value_of bytes) ≡ bytes
-written_read [] e p = let z : ◌≡◌ {A = ℕ} 0 1 = cc in absurd (omega arith)
+written_read [] e p = cc
 written_read (b ∷ []) e p =
     let d = within_true 48 57 b (both (is_digit b) true e).0 in
     decimal_small (10 * 0 + (b - 48)) (omega arith) ∙ ap (λ (k : ℕ). k ∷ []) (omega (arith, d.0, d.1))
