@@ -1,10 +1,11 @@
 -- One event in a run: what its code leaves is the definition's event, and the run may go on.
-use mathlib.Core.Path.{◌≡◌, refl, ap, ◌∙◌}
-use mathlib.Core.List.{List, [], ◌∷◌}
+use mathlib.Core.Path.{◌≡◌, ap, ◌∙◌}
+use mathlib.Core.List.{List}
 use mathlib.Core.Logic.{⊎_elim}
 use Prim.Native.Nat.{ℕ, ◌+◌, ◌*◌, ◌≤◌, ◌<◌}
 use native.Mathlib.Omega.{arith}
 use lib.ListN.{length}
+use Rattle.std.proofs.lemmas.List.{nil_from_length}
 use Rattle.rows.specs.declared.Channel.{Channel}
 use Rattle.rows.specs.declared.Channel.TheVariants.{Silence, Busy, Collision}
 use Rattle.messages.specs.declared.Message.{Message}
@@ -22,10 +23,6 @@ use Rattle.events.specs.Event.{channel_of, used_by, marked, Event, event_by, eve
 use Rattle.events.specs.Work.{StepReady, Stepped}
 use Rattle.events.proofs.EventLaws.{used_few}
 use Rattle.trees.proofs.Powers.{le_or_lt}
-
-no_more : (l : List ℕ) → length l ≡ 0 → l ≡ []
-no_more [] e = refl
-no_more (x ∷ l) e = absurd (omega arith)
 
 -- the marked list is one that a run can take
 marked_runnable : (c : Channel) (ms : List Message) (i slot : ℕ) → Runnable ms → Runnable (marked c ms i slot)
@@ -54,7 +51,7 @@ module _ (S : Shop) (sound : Sound S) (table : List ℕ) (ms : List Message) (σ
   small : t.message < 65536
   small =
       ⊎_elim (λ h. omega (arith, inside h, g.runnable.few))
-      (λ h. omega (arith, last, ap last_of (no_more (contenders S table ms σ) (omega (arith, counts)))))
+      (λ h. omega (arith, last, ap last_of (nil_from_length (contenders S table ms σ) (omega (arith, counts)))))
       (le_or_lt 1 t.count)
 
   pub step_ready : StepReady S ms t σ
