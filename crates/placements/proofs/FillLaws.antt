@@ -36,9 +36,6 @@ mid_drop a v xs ys h =
     ∙ ap (λ (k : ℕ). ys ++ drop k (drop a xs)) e
     ∙ ap (λ (l : List ℕ). ys ++ l) (drop-drop v a xs)
 
-mid_keeps : (a v : ℕ) (xs ys : List ℕ) → length ys ≡ length (take (a + v - a) (drop a xs)) → length (put_mid a (a + v - a) xs ys) ≡ length xs
-mid_keeps a v xs ys h = same_len_mid a (a + v - a) xs ys h
-
 -- ---- the loop over the children, from the last to the first
 
 -- the children from j on are placed
@@ -101,7 +98,7 @@ module _ (m t k j : ℕ) (out : List ℕ) (f : Filling m t k (suc j) out) where
         inside = f.inside;
         two = f.two;
         left = omega (arith, f.left);
-        count = mid_keeps (j * S) S out u len ∙ f.count;
+        count = same_len_mid (j * S) (j * S + S - j * S) out u len ∙ f.count;
         filled = λ n w. rw (rest, tail) (kids_cons m n (share m S k j) (up_from (share m S k) (suc j) (m - suc j)) u (drop (suc j * S) out)
             (subst (λ (x : ℕ). Placed m n x u) e (p n (part_length ∙ w))) (f.filled n w));
       }
