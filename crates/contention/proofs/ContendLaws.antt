@@ -220,7 +220,7 @@ module _ (S : Shop) (table : List ℕ) (ms : List Message) (σ : State) (a p : �
       go : (t : Bool) → eqb (get_or table (a + 0) 0) s ≡ t
           → ((false || eqb (get_or table (a + 0) 0) s) && in_class S σ.reference (deadline_of (get_or ms i blank)) (p + 1)) ≡ true → get_or table a 0 ≡ s
       go true q f = ap (λ (k : ℕ). get_or table k 0) (sym (add-zero a)) ∙ eqb-true (get_or table (a + 0) 0) s q
-      go false q f = let z : ◌≡◌ {A = ℕ} 0 1 = cc in absurd (omega arith)
+      go false q f = cc
 
   -- below n: nobody, or the owner alone
   leaf_below : (n : ℕ) → (length (contenders_below S table ms σ n) ≡ 0) ⊎ ((get_or table a 0 < n) × (length (contenders_below S table ms σ n) ≡ 1))
