@@ -14,7 +14,7 @@ use Rattle.trees.specs.Shape.{tree_verdict}
 use Rattle.trees.proofs.ShapeLaws.{grown}
 use Rattle.messages.specs.declared.Message.{Message}
 use Rattle.messages.specs.Message.{blank}
-use Rattle.messages.specs.Lists.{Timed, TimedList, Runnable, SameLength, listed}
+use Rattle.messages.specs.Lists.{Timed, Runnable, SameLength, listed}
 use Rattle.messages.proofs.ListLaws.{length_listed}
 use Rattle.classes.specs.Class.{class_fits}
 use Rattle.classes.proofs.VerdictLaws.{fitting}
@@ -60,9 +60,6 @@ pub timed_lasting : (z : ℕ) (ms : List Message) → all_fit z ms ≡ true → 
 timed_lasting z [] e i h = absurd (omega arith)
 timed_lasting z (m ∷ ms) e zero h = timed_message z m (both (message_fits z m) (all_fit z ms) e).0
 timed_lasting z (m ∷ ms) e (suc i) h = timed_lasting z ms (both (message_fits z m) (all_fit z ms) e).1 i (omega arith)
-
-timed_list : (z : ℕ) (ms : List Message) → all_fit z ms ≡ true → TimedList ms
-timed_list z ms e i h = (timed_lasting z ms e i h).0
 
 -- ---- the run
 
@@ -152,7 +149,7 @@ allowed S owners whole ms budget bytes e =
       owners_small = small_owners S.stations owners sound.stations p.owned;
       table_long = length_table owners fewer;
       complete = p.complete;
-      runnable = record { few = p.count; timed = timed_list S.stations ms p.fit };
+      runnable = record { few = p.count; timed = λ i h. (timed_lasting S.stations ms p.fit i h).0 };
       some_budget = p.some_budget;
       few = p.few;
       room = p.room;
