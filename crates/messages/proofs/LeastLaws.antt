@@ -12,7 +12,7 @@ use borrow.Author.Tests.{ltb-true, ltb-false, eqb-true, eqb-false}
 use Rattle.messages.specs.declared.Message.{Message}
 use Rattle.messages.specs.Message.{none, blank, deadline_of, goes_before, better, first_among, first_message}
 use Rattle.messages.proofs.OrderLaws.{candidate, better_none, better_new, better_old}
-use Rattle.messages.proofs.OrderLaws.{among, among_with, among_without}
+use Rattle.messages.proofs.OrderLaws.{among, among_by}
 
 -- a goes before b: a smaller deadline, or the same and an earlier arrival
 before_true : (a b : Message) → goes_before a b ≡ true
@@ -24,7 +24,7 @@ before_true a b = go (ltb (deadline_of a) (deadline_of b)) refl (eqb (deadline_o
         → (deadline_of a < deadline_of b) ⊎ ((deadline_of a ≡ deadline_of b) × (a.arrival < b.arrival))
     go true e t f h = inl (ltb-true _ _ e)
     go false e true f h = inr (eqb-true _ _ f, ltb-true _ _ h)
-    go false e false f h = let z : ◌≡◌ {A = ℕ} 0 1 = cc in absurd (omega arith)
+    go false e false f h = cc
 
 -- it does not
 before_false : (a b : Message) → goes_before a b ≡ false
@@ -34,7 +34,7 @@ before_false a b = go (ltb (deadline_of a) (deadline_of b)) refl (eqb (deadline_
     go : (s : Bool) → ltb (deadline_of a) (deadline_of b) ≡ s → (t : Bool) → eqb (deadline_of a) (deadline_of b) ≡ t
         → (s || (t && ltb a.arrival b.arrival)) ≡ false
         → (deadline_of b < deadline_of a) ⊎ ((deadline_of b ≡ deadline_of a) × (b.arrival ≤ a.arrival))
-    go true e t f h = let z : ◌≡◌ {A = ℕ} 0 1 = cc in absurd (omega arith)
+    go true e t f h = cc
     go false e true f h = inr (sym (eqb-true _ _ f), ltb-false _ _ h)
     go false e false f h =
         let other : deadline_of a ≡ deadline_of b → ⊥ = eqb-false _ _ f in
@@ -134,15 +134,14 @@ module _ (ms : List Message) where
 
         go : (b : Bool) → candidate ms slot station i ≡ b → FirstOf f i
             → FirstOf (first_among ms slot station (suc i)) (suc i)
-        go true e ih = next (better ms f i) (among_with ms slot station i e) (first_with f i h below ih)
-        go false e ih = next f (among_without ms slot station i e) (λ j l c. ih j (older j l c) c)
+        go true e ih = next (better ms f i) (among_by ms slot station i true e) (first_with f i h below ih)
+        go false e ih = next f (among_by ms slot station i false e) (λ j l c. ih j (older j l c) c)
           where
             older : (j : ℕ) → j < suc i → candidate ms slot station j ≡ true → j < i
             older j l c =
                 let other : j ≡ i → ⊥ = λ same.
                 let z : ◌≡◌ {A = Bool} true false = sym c ∙ ap (candidate ms slot station) same ∙ e in
-                let y : ◌≡◌ {A = ℕ} 0 1 = cc in
-                omega arith in
+                cc in
                 omega arith
 
     -- A STATION'S FIRST MESSAGE goes first of all its messages that wait, in a list of fewer than 65,536

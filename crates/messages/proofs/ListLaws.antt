@@ -42,7 +42,7 @@ module _ (ms : List Message) (slot station : ℕ) where
           where
             go : (t : Bool) → eqb m.station n ≡ t → (t && waits slot m) ≡ true → (m.station ≡ n) × (waits slot m ≡ true)
             go true p q = (eqb-true _ _ p, q)
-            go false p q = let z : ◌≡◌ {A = ℕ} 0 1 = cc in absurd (omega arith)
+            go false p q = cc
 
 -- ---- a slot of sending is set
 

@@ -62,16 +62,10 @@ candidate ms slot station i = eqb (get_or ms i blank).station station && waits s
 
 module _ (ms : List Message) (slot station : ℕ) where
   -- one message more
-  among_by : (i : ℕ) (t : Bool) → candidate ms slot station i ≡ t
+  pub among_by : (i : ℕ) (t : Bool) → candidate ms slot station i ≡ t
       → first_among ms slot station (i + 1) ≡ elim t [ true ↦ better ms (first_among ms slot station i) i | false ↦ first_among ms slot station i ]
   unfolding first_among
   among_by i t e = rw add-one (ap (λ (b : Bool). elim b [ true ↦ better ms (first_among ms slot station i) i | false ↦ first_among ms slot station i ]) e)
-
-  pub among_with : (i : ℕ) → candidate ms slot station i ≡ true → first_among ms slot station (i + 1) ≡ better ms (first_among ms slot station i) i
-  among_with i e = among_by i true e
-
-  pub among_without : (i : ℕ) → candidate ms slot station i ≡ false → first_among ms slot station (i + 1) ≡ first_among ms slot station i
-  among_without i e = among_by i false e
 
   -- f is none, or one of the first n messages, and a candidate
   abbrev pub Among : ℕ → ℕ → Type 0
