@@ -16,7 +16,7 @@ use Rattle.refusals.specs.Numbers.{Verdict, granted, number_of, within, ask, and
 -- ---- tests
 
 never : {A : Type 0} (r : Refusal) → Err r ≡ granted → A
-never r e = let z : ◌≡◌ {A = ℕ} 0 1 = cc in absurd (omega arith)
+never r e = cc
 
 pub ask_granted : (b : Bool) (r : Refusal) (v : Verdict) → ask b r v ≡ granted → (b ≡ true) × (v ≡ granted)
 ask_granted true r v e = (refl, e)
@@ -28,7 +28,7 @@ then_granted (Err r) w e = never r e
 
 pub both : (a b : Bool) → (a && b) ≡ true → (a ≡ true) × (b ≡ true)
 both true b e = (refl, e)
-both false b e = let z : ◌≡◌ {A = ℕ} 0 1 = cc in absurd (omega arith)
+both false b e = cc
 
 pub within_true : (lo hi x : ℕ) → within lo hi x ≡ true → (lo ≤ x) × (x ≤ hi)
 within_true lo hi x e = let b = both (leb lo x) (leb x hi) e in (leb-true lo x b.0, leb-true x hi b.1)
