@@ -3,14 +3,16 @@
 // Uses nothing.
 #![tactic(auto)]
 
-ghost use Rattle.std.specs.Prelude.{◌≡◌, ◌<◌, IfSome, length, unwrap_or};
-ghost use Rattle.messages.specs.Message.{none, deadline_of, waits, goes_before, first_message, fresh, all_sent};
+ghost use Rattle.std.specs.Prelude.{◌≡◌, ◌<◌, IfSome, eqb, length, not, unwrap_or};
+ghost use Rattle.messages.specs.Message.{none, unsent, deadline_of, waits, goes_before, first_message, fresh, all_sent};
 ghost use Rattle.messages.specs.Lists.{Timed, Runnable};
 
 // The slot of sending of a message that has not been sent.
+// A number, not an Option: a lent record holds it, as C reads it.
 pub const UNSENT: u32 = 4294967295;
 
 // What a row holds in place of a message's number where there is none.
+// A number, not an Option: it is what a row's two bytes hold, and the tally keeps the row's number.
 pub const NO_MESSAGE: u32 = 65535;
 
 #[repr(C)]
@@ -41,11 +43,18 @@ impl Message {
         self.arrival + self.relative
     }
 
+    // Whether the message was sent.
+    pub fn is_sent(self) -> bool
+        ensures { result ≡ not (eqb self.sent unsent) }
+    {
+        self.sent != UNSENT
+    }
+
     // Whether the message has arrived by the slot and is unsent.
     fn is_waiting(self, slot: u32) -> bool
         ensures { result ≡ waits slot self }
     {
-        self.arrival <= slot && self.sent == UNSENT
+        self.arrival <= slot && !self.is_sent()
     }
 
     // Whether the message goes before the other of the same station, which has the lower number.
@@ -79,7 +88,7 @@ pub fn first_message(list: &[Message], station: u32, slot: u32) -> Option<u32>
 pub fn all_sent(list: &[Message]) -> bool
     ensures { result ≡ all_sent list.now }
 {
-    list.iter().all(|message| message.sent != UNSENT)
+    list.iter().all(|message| message.is_sent())
 }
 
 // As a run begins: every slot of sending becomes UNSENT, whatever it held.
