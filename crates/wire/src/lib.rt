@@ -5,7 +5,7 @@
 
 ghost use Rattle.std.specs.Prelude.{◌≡◌};
 ghost use Rattle.messages.specs.Lists.{Runnable, Timed};
-ghost use Rattle.wire.specs.Run.{was_sent, was_late, sent_count, late_count};
+ghost use Rattle.wire.specs.Run.{was_late, sent_count, late_count};
 ghost use Rattle.wire.specs.Promise.{ListPromise};
 ghost use Rattle.wire.specs.Work.{RunReady, Ran};
 
@@ -14,7 +14,7 @@ use phases::{Shop, Standing, State};
 use refusals::Refusal;
 
 // The closing figures: events, present slot, messages sent, and how many of them ended late.
-#[derive(Clone, Copy, Debug, PartialEq, Eq)]
+#[derive(Clone, Copy, Debug, Default, PartialEq, Eq)]
 pub struct Figures {
     pub events: u32,
     pub slot: u32,
@@ -29,20 +29,13 @@ pub enum Outcome {
     Spent(Figures),
 }
 
-// Whether the message was sent.
-fn was_sent(message: Message) -> bool
-    ensures { result ≡ was_sent message }
-{
-    message.sent != messages::UNSENT
-}
-
 // Whether the message was sent and ended after its absolute deadline.
 fn was_late(message: Message) -> bool
     requires { Timed message }
     ensures { result ≡ was_late message }
 {
     let end = u64::from(message.sent) + u64::from(message.length);
-    was_sent(message) && u64::from(message.deadline()) < end
+    message.is_sent() && u64::from(message.deadline()) < end
 }
 
 // How many messages were sent.
@@ -50,7 +43,7 @@ fn sent_count(list: &[Message]) -> u32
     requires { Runnable list.now }
     ensures { result ≡ sent_count list.now }
 {
-    list.iter().filter(|message| was_sent(**message)).count() as u32
+    list.iter().filter(|message| message.is_sent()).count() as u32
 }
 
 // How many messages were sent and ended late.
@@ -92,7 +85,8 @@ fn run_events(
 }
 
 // A run of the shop: a row for each event in the log, the slot of sending of each message that was sent, and the
-// closing figures; or a refusal, and list and log as they came. `whole` is whether the list of messages came whole.
+// closing figures; or a refusal, and list and log as they came.
+// `whole` is whether the list of messages came whole: one that did not is refused in its turn, behind other refusals.
 pub fn run_list(
     shop: Shop,
     owners: &[u32],
