@@ -11,7 +11,7 @@ use messages::{BLANK, Message};
 use refusals::{Refusal, Verdict};
 
 // How many records are kept and how many are withdrawn.
-#[derive(Clone, Copy, Debug, PartialEq, Eq)]
+#[derive(Clone, Copy, Debug, Default, PartialEq, Eq)]
 pub struct Withdrawn {
     pub kept: u32,
     pub withdrawn: u32,
@@ -31,6 +31,7 @@ fn withdrawal_verdict(station: u32, count: usize) -> Verdict
 }
 
 // The records of other stations move to the front, in their order; the result is how many they are.
+// By a loop: a slice has no `retain`, and nothing is allocated.
 fn move_kept(messages: &mut [Message], station: u32) -> usize
     ensures front { take result messages.new ≡ kept_of station messages.old }
     ensures within { result ≤ length messages.old }
