@@ -36,21 +36,20 @@ sound m t leaves room e =
       fits = omega (arith, ap (λ (x : ℕ). 16 * x) (nodes_quotient m t (suc g.under) g.tree.branches g.leaves));
     }
 
--- nothing written yet
-abbrev pub fresh : Searched
-fresh = record { rows = 0; silences = 0; collisions = 0 }
-
-pub root_ready : (m t : ℕ) (leaves log : List ℕ) → granted ≡ search_verdict m t leaves (length log) → VisitReady leaves log m 0 t fresh
-root_ready m t leaves log e =
+-- nothing is written yet
+pub root_ready : (m t : ℕ) (leaves log : List ℕ) (none : Searched) → granted ≡ search_verdict m t leaves (length log)
+    → none.rows ≡ 0 × (none.silences ≡ 0 × none.collisions ≡ 0) → VisitReady leaves log m 0 t none
+root_ready m t leaves log none e empty =
     let ok = sound m t leaves (length log) e in
+    let rows = empty.0 in
     record {
       height = suc ok.tree.under;
       width = ok.tree.leaves;
       branches = ok.tree.tree.branches;
       inside = omega (arith, ok.all);
       few = omega (arith, ok.all, ok.tree.tree.few);
-      room = omega (arith, ok.fits);
-      slots = omega (arith, nodes_few m (suc ok.tree.under) ok.tree.tree.branches, ok.tree.leaves, ok.tree.tree.few);
-      silent = omega arith;
-      collided = omega arith;
+      room = omega (arith, ok.fits, rows);
+      slots = omega (arith, nodes_few m (suc ok.tree.under) ok.tree.tree.branches, ok.tree.leaves, ok.tree.tree.few, rows);
+      silent = omega (arith, empty.1.0);
+      collided = omega (arith, empty.1.1);
     }

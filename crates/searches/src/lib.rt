@@ -15,7 +15,7 @@ use refusals::{Refusal, Verdict};
 use rows::{Channel, NO_MESSAGE, Phase, Row};
 
 // What a bare search has written: its rows, and how many of their slots were silent and how many collided.
-#[derive(Clone, Copy, Debug, PartialEq, Eq)]
+#[derive(Clone, Copy, Debug, Default, PartialEq, Eq)]
 pub struct Searched {
     pub rows: u32,
     pub silences: u32,
@@ -50,7 +50,7 @@ fn rows_room(m: u32, t: u32) -> usize
     ensures { result ≡ rows_room m t }
 {
     let nodes = (m * t - 1) / (m - 1);
-    16 * (nodes as usize)
+    16 * nodes as usize
 }
 
 // The refusals of a bare search, in their order.
@@ -96,13 +96,6 @@ impl Subtree {
 }
 
 impl Searched {
-    // Nothing written yet.
-    const START: Searched = Searched {
-        rows: 0,
-        silences: 0,
-        collisions: 0,
-    };
-
     // One slot: its row is written behind the others, and counted.
     fn note(self, log: &mut [u8], state: Channel, subtree: Subtree, message: u16) -> Searched
         requires { NoteReady log.old self subtree.first subtree.width }
@@ -160,5 +153,5 @@ pub fn search(m: u32, t: u32, leaves: &[u8], log: &mut [u8]) -> Result<Searched,
         first: 0,
         width: t as usize,
     };
-    Ok(visit(leaves, log, m as usize, tree, Searched::START))
+    Ok(visit(leaves, log, m as usize, tree, Searched::default()))
 }
