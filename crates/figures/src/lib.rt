@@ -85,11 +85,7 @@ impl From<Result<Searched, Refusal>> for SearchNumbers {
     ghost from_gives = { λ answer numbers. search_numbers numbers ≡ figures_of_search answer };
 
     fn from(answer: Result<Searched, Refusal>) -> SearchNumbers {
-        let searched = answer.unwrap_or(Searched {
-            rows: 0,
-            silences: 0,
-            collisions: 0,
-        });
+        let searched = answer.unwrap_or_default();
         SearchNumbers {
             refusal: refusal_number(&answer),
             rows: searched.rows,
@@ -131,16 +127,10 @@ impl From<Result<Outcome, Refusal>> for RunNumbers {
     ghost from_gives = { λ answer numbers. run_reading numbers ≡ reading_of answer };
 
     fn from(answer: Result<Outcome, Refusal>) -> RunNumbers {
-        let nothing = Figures {
-            events: 0,
-            slot: 0,
-            sent: 0,
-            late: 0,
-        };
         let (done, figures) = match answer {
             Ok(Outcome::Done(figures)) => (true, figures),
             Ok(Outcome::Spent(figures)) => (false, figures),
-            Err(_) => (false, nothing),
+            Err(_) => (false, Figures::default()),
         };
         RunNumbers {
             refusal: refusal_number(&answer),
@@ -157,10 +147,7 @@ impl From<Result<Withdrawn, Refusal>> for WithdrawalNumbers {
     ghost from_gives = { λ answer numbers. withdrawal_numbers numbers ≡ figures_of_withdrawal answer };
 
     fn from(answer: Result<Withdrawn, Refusal>) -> WithdrawalNumbers {
-        let counts = answer.unwrap_or(Withdrawn {
-            kept: 0,
-            withdrawn: 0,
-        });
+        let counts = answer.unwrap_or_default();
         WithdrawalNumbers {
             refusal: refusal_number(&answer),
             kept: counts.kept,
