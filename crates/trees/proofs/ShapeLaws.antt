@@ -1,9 +1,9 @@
 -- The shape of a tree: its height is the one power that fits, its verdict says whether there is one, and its nodes are counted.
 use mathlib.Core.Path.{◌≡◌, refl, sym, ap, ◌∙◌}
 use mathlib.Core.Bool.{Bool, true, false}
-use mathlib.Core.Logic.{⊎_elim}
+use mathlib.Core.Logic.{◌⊎◌, ⊎_elim}
 use Prim.Native.Nat.{ℕ, zero, suc, ◌+◌, ◌*◌, ◌-◌, ◌/◌, ◌^◌, ◌≤◌, ◌<◌}
-use native.Mathlib.Nat.{pow-le-pow_left, pow-le-pow_right, not-suc-le-zero, suc-ne-zero, pow-succ', pow-suc, pow-zero, mul-one, mul-add, mul_left_comm, mul-div_right, mul-le-mul_left, one-le-pow}
+use native.Mathlib.Nat.{pow-le-pow_left, pow-le-pow_right, not-suc-le-zero, suc-ne-zero, pow-succ', pow-zero, mul-one, mul-add, mul_left_comm, mul-div_right, mul-le-mul_left, one-le-pow}
 use native.Mathlib.Omega.{arith}
 use lib.Dec.{ltb, eqb}
 use borrow.Author.Tests.{eqb-true, eqb-false, ltb-true, ltb-false, lt-ltb, le-ltb}
@@ -55,45 +55,33 @@ height_none m t f = go (height_of m t) refl
     go zero e = e
     go (suc h) e = absurd (f h (sym (height_sound m t h e).0))
 
--- ---- the loop over the powers
+-- ---- the largest power that is not above t
 
--- p is a power, and every smaller one is below t
-pub record Reached (m t p : ℕ) : Type 0 where
-  pub height : ℕ
-  pub power : p ≡ m ^ suc height
-  pub passed : (h : ℕ) → h < height → m ^ suc h < t
-
-pub reached_first : (m t : ℕ) → Reached m t m
-reached_first m t = record { height = 0; power = sym (pow-succ' m 0 ∙ ap (λ (x : ℕ). m * x) (pow-zero m) ∙ mul-one m); passed = λ h g. absurd (not-suc-le-zero g) }
-
-pub reached_next : (m t p : ℕ) → p < t → Reached m t p → Reached m t (p * m)
-reached_next m t p lt r = record {
-  height = suc r.height;
-  power = ap (λ (x : ℕ). x * m) r.power ∙ sym (pow-suc m (suc r.height));
-  passed = λ h g. ⊎_elim (λ q. let same : h ≡ r.height = omega arith in rw (same, ← r.power) lt) (λ q. r.passed h q) (le_or_lt r.height h);
-}
-
-pub reached_grows : (m t p : ℕ) → 2 ≤ m → p < t → Reached m t p → t - p * m < t - p
-reached_grows m t p h lt r = omega (arith, mul-le-mul_left p h, one-le-pow (suc r.height) m (omega arith), r.power)
-
-reached_is : (m t p : ℕ) → 2 ≤ m → t ≤ 1024 → p ≡ t → Reached m t p → ltb 0 (height_of m t) ≡ true
-reached_is m t p h le e r = lt-ltb 0 (height_of m t) (omega (arith, height_complete m t r.height h (sym e ∙ r.power) le))
-
-reached_not : (m t p : ℕ) → 2 ≤ m → t ≤ p → (p ≡ t → ⊥) → Reached m t p → ltb 0 (height_of m t) ≡ false
-reached_not m t p hm le ne r =
-    rw (height_none m t (λ h e. ⊎_elim
-    (λ q.
-    let a : m ^ suc r.height ≤ m ^ suc h = pow-le-pow_right (omega arith) (omega arith) in
-    ne (omega (arith, r.power)))
-    (λ q. let a = r.passed h q in absurd (omega arith))
-    (le_or_lt r.height h))) refl
-
-pub reached_last : (m t p : ℕ) → 2 ≤ m → t ≤ 1024 → t ≤ p → Reached m t p → eqb p t ≡ ltb 0 (height_of m t)
-reached_last m t p h few le r = go (eqb p t) refl
+-- it is t where a height is there
+pub power_fits : (m t n : ℕ) → 2 ≤ m → m ≤ t → t ≤ 1024 → m ^ n ≤ t → t < m * m ^ n → eqb (m ^ n) t ≡ ltb 0 (height_of m t)
+power_fits m t zero hm lo few le lt = absurd (omega (arith, pow-zero m, mul-one m, ap (λ (x : ℕ). m * x) (pow-zero m)))
+power_fits m t (suc n) hm lo few le lt = go (eqb (m ^ suc n) t) refl
   where
-    go : (b : Bool) → eqb p t ≡ b → b ≡ ltb 0 (height_of m t)
-    go true e = sym (reached_is m t p h few (eqb-true p t e) r)
-    go false e = sym (reached_not m t p h le (eqb-false p t e) r)
+    go : (b : Bool) → eqb (m ^ suc n) t ≡ b → b ≡ ltb 0 (height_of m t)
+    go true e = sym (lt-ltb 0 (height_of m t) (omega (arith, height_complete m t n hm (sym (eqb-true (m ^ suc n) t e)) few)))
+    go false e = rw (height_none m t (λ h f. ⊎_elim
+        (λ p.
+        let a : m ^ suc (suc n) ≤ m ^ suc h = pow-le-pow_right (omega arith) (omega arith) in
+        absurd (omega (arith, pow-succ' m (suc n))))
+        (λ p.
+        let a : m ^ suc h ≤ m ^ suc n = pow-le-pow_right (omega arith) (omega arith) in
+        eqb-false (m ^ suc n) t e (omega arith))
+        (le_or_lt (suc n) h))) refl
+
+-- none is there below m or above the limit
+pub height_outside : (m t : ℕ) → 2 ≤ m → (t < m) ⊎ (1024 < t) → false ≡ ltb 0 (height_of m t)
+height_outside m t hm out = go (height_of m t) refl
+  where
+    go : (x : ℕ) → height_of m t ≡ x → false ≡ ltb 0 (height_of m t)
+    go zero e = rw e refl
+    go (suc h) e =
+        let s = height_sound m t h e in
+        absurd (⊎_elim (λ p. omega (arith, s.0, pow-succ' m h, mul-le-mul_left m (one-le-pow h m (omega arith)), mul-one m)) (λ p. omega (arith, s.1)) out)
 
 -- ---- the verdict
 

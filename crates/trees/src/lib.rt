@@ -18,18 +18,15 @@ use refusals::{Refusal, Verdict};
 pub const LEAVES_MAX: u32 = 1024;
 
 // Whether t is a power of m, from m on, within the limit.
+#[tactic(auto, using(crate::proofs::ShapeLaws::power_fits, crate::proofs::ShapeLaws::height_outside))]
 fn is_leaf_count(m: u32, t: u32) -> bool
     requires { (2 ≤ m) × (m ≤ 16) }
     ensures { result ≡ ltb 0 (height_of m t) }
 {
-    if LEAVES_MAX < t {
+    if t < m || LEAVES_MAX < t {
         return false;
     }
-    let mut power = m;
-    while power < t {
-        power = power * m;
-    }
-    power == t
+    m.pow(t.ilog(m)) == t
 }
 
 // Refusals 1 and 2 of a tree with m branches and t leaves.
