@@ -1,6 +1,7 @@
 // Lines: the program as a function from the bytes of its input to the bytes of its output (docs/RULES.md, section 12).
 // `answer` reads the shop's text, runs the shop and writes its log and closing figures, or the line of a refusal.
-// Uses messages, phases and refusals, and reading, wire and printing, which do the work.
+// Uses messages, phases and refusals, and reading, wire and printing, which do the work. Its definitions use those of
+// inputs, rows, contention and numbers too; its proofs cite trees.
 #![tactic(auto)]
 
 ghost use Rattle.std.specs.Prelude.{◌≤◌, length};

@@ -1,6 +1,6 @@
 // Reading: the text of a shop, line by line (docs/RULES.md, section 12). `read_shop` reads it all.
 // Numbers and messages that do not fit into a lent list are read and counted, and not kept: no shop with so many is run.
-// Uses messages and phases for what a text gives, and numbers.
+// Uses messages and phases for what a text gives, and numbers, which reads each number; only its proofs cite refusals.
 #![tactic(auto)]
 
 ghost use Rattle.std.specs.Prelude.{◌≡◌, false, [], ◌∷◌, ◌++◌, set, MatchOption};
@@ -24,7 +24,7 @@ pub struct Given {
     pub messages: usize,
 }
 
-// A value of a list, if it has that place.
+// Sets a place of a list, if the list has it.
 fn put<T: Copy>(list: &mut [T], i: usize, value: T)
     ensures { list.new ≡ set list.old i value }
 {
