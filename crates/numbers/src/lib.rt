@@ -26,6 +26,7 @@ pub fn put_number(output: &mut [u8], at: usize, n: u32) -> usize
 }
 
 // 1 to 10 digits up to 4,294,967,295; leading zeros are allowed.
+// No `parse`: it takes a sign and more digits, which docs/RULES.md, section 12, refuses.
 #[tactic(auto, using(crate::proofs::ReadLaws::read_large))]
 pub fn read_number(bytes: &[u8]) -> Option<u32>
     ensures { result ≡ number_in bytes.now }
