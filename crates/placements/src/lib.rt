@@ -47,6 +47,7 @@ fn fill_tree(m: usize, k: usize, leaves: &mut [u8])
         return;
     }
     let width = leaves.len() / m;
+    // No `chunks_exact_mut`: behind it a proof knows the lengths of the parts and not their place in the list.
     for j in (0..m).rev() {
         let from = j * width;
         fill_tree(m, share(m, width, k, j), &mut leaves[from..from + width]);
