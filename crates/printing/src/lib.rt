@@ -15,6 +15,7 @@ use refusals::Refusal;
 use rows::{Channel, Phase, Row};
 use wire::{Figures, Outcome};
 
+// The letters are the report's own, so they stand here and not with the types.
 fn phase_letter(phase: Phase) -> u8
     ensures { result ≡ phase_letter phase }
 {
@@ -26,6 +27,7 @@ fn phase_letter(phase: Phase) -> u8
     }
 }
 
+// The report's own letters, as above.
 fn state_letter(state: Channel) -> u8
     ensures { result ≡ state_letter state }
 {
