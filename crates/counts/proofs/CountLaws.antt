@@ -7,6 +7,8 @@ use native.Mathlib.Nat.{le_refl, le_antisymm, not-suc-le-zero, suc-mul, mul-le-m
 use native.Mathlib.Omega.{arith}
 use native.Mathlib.Numerals.{add-one}
 use lib.ListN.{length, get_or, take, drop, set, get_or-eq_default}
+use Rattle.std.specs.List.{fold, range_with_len}
+use Rattle.std.specs.Prelude.{max, min}
 use Rattle.std.proofs.lemmas.Grind.{common_steps}
 use Rattle.std.proofs.lemmas.List.Edits.{map_over_more}
 use Rattle.std.proofs.lemmas.List.{get_or_default, take_all, take_more, take_more_set}
@@ -39,6 +41,33 @@ module _ (one rest : List ℕ) (k : ℕ) where
       let w = pairs_attained one rest k (omega (arith, pairs_length one rest both.some both.others)) in
       let q : k - w.0 ≡ w.1 = omega (arith, w.4) in
       le_antisymm le (omega (arith, w.5, rw q at (all w.0 w.2 (omega (arith, w.4)) (omega (arith, w.4, w.3)))))
+
+-- ---- the largest of n values, from place a on
+
+module _ (h : ℕ → ℕ) where
+  -- at least where it begins, and each value
+  over_all : (b a n : ℕ) → (b ≤ fold (λ r i. max r (h i)) b (range_with_len a n))
+      × ((i : ℕ) → a ≤ i → i < a + n → h i ≤ fold (λ r x. max r (h x)) b (range_with_len a n))
+  over_all b a zero = (le_refl b, λ i le g. omega (arith, le, g))
+  over_all b a (suc n) =
+      let t = over_all (max b (h a)) (a + 1) n in (
+        omega (arith, t.0),
+        λ i le g. ⊎_elim (λ p. let q : i ≡ a = omega arith in omega (arith, ap h q, t.0)) (λ p. t.1 i (omega arith) (omega arith)) (le_or_lt i a),
+      )
+
+  -- no more than all of them
+  under_all : (top b a n : ℕ) → b ≤ top → ((i : ℕ) → a ≤ i → i < a + n → h i ≤ top) → fold (λ r i. max r (h i)) b (range_with_len a n) ≤ top
+  under_all top b a zero le all = le
+  under_all top b a (suc n) le all = under_all top (max b (h a)) (a + 1) n (omega (arith, le, all a (le_refl a) (omega arith))) (λ i g l. all i (omega arith) (omega arith))
+
+pub largest_sum : (one rest : List ℕ) (k from to : ℕ) → Together one rest → k + 1 < length one + length rest
+    → from ≡ (k + 1) - length rest → to ≡ min (length one) (k + 1)
+    → fold (λ r i. max r (get_or one i 0 + get_or rest (k - i) 0)) 0 (range_with_len from (to - from)) ≡ get_or (pairs one rest) k 0
+largest_sum one rest k from to both room f t =
+    let h : ℕ → ℕ = λ i. get_or one i 0 + get_or rest (k - i) 0 in
+    is_best one rest k _ both room
+    (λ i a b c. (over_all h 0 from (to - from)).1 i (omega arith) (omega arith))
+    (under_all h _ 0 from (to - from) zero-le (λ i g l. under_best one rest k i (omega arith) (omega arith) (omega (arith, both.others))))
 
 -- ---- places that are filled from the front
 

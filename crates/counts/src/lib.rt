@@ -18,6 +18,7 @@ use refusals::{Refusal, Verdict};
 use std::marker::Model;
 
 // What trees cost at most, for each number of active leaves from 0 on: `len` counts, which are what clauses see.
+// Nothing is allocated: there is a place for each count of the largest tree.
 #[derive(Drop)]
 struct Counts {
     len: usize,
@@ -60,18 +61,16 @@ impl Counts {
 }
 
 // The largest one[i] + rest[k - i], over all i for which both are there.
-#[tactic(auto, using(crate::proofs::CountLaws::under_best))]
 fn best_pair(one: &[u16], rest: &[u16], k: usize) -> u32
     requires { Together one.now rest.now × (k + 1 < length one.now + length rest.now) }
     ensures { result ≡ get_or (pairs one.now rest.now) k 0 }
 {
     let from = (k + 1).saturating_sub(rest.len());
     let to = one.len().min(k + 1);
-    let mut best = 0;
-    for i in from..to {
-        best = best.max(u32::from(one[i]) + u32::from(rest[k - i]));
-    }
-    best
+    (from..to)
+        .map(|i| u32::from(one[i]) + u32::from(rest[k - i]))
+        .max()
+        .unwrap_or(0)
 }
 
 // What some trees and some others cost at most together.
@@ -88,6 +87,7 @@ fn paired(one: &[u16], rest: &[u16]) -> Counts
 }
 
 // What j trees cost at most together.
+// A loop: an array of 2 KB is handed from turn to turn, and as a fold that is no plainer.
 fn all_parts(small: &[u16], j: usize) -> Counts
     requires { PartsReady small.now j }
     ensures { result ≡ parts small.now j }
