@@ -14,6 +14,7 @@ use messages::Message;
 use phases::{Shop, Standing, State};
 
 // How many stations contend, and the message of the last of them.
+// A number, not an Option: where nobody contends, the message is what a row holds.
 #[derive(Clone, Copy)]
 pub struct Tally {
     pub count: u32,

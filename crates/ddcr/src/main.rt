@@ -13,6 +13,7 @@ const INPUT_ROOM: usize = 65537;
 fn read_full(input: &mut impl Read, room: &mut [u8]) -> usize
     ensures { result ≤ length room.new }
 {
+    // No `read_exact`, which fails on a short input, and no `read_to_end`, which allocates.
     let mut done = 0;
     while done < room.len() {
         match input.read(&mut room[done..]) {

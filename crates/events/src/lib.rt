@@ -28,6 +28,7 @@ fn channel_of(count: u32) -> Channel
         0 => Channel::Silence,
         1 => Channel::Busy,
         2..=32 => Channel::Collision,
+        // A match must name every number; 2..=32 is the range that is asked for.
         _ => Channel::Collision,
     }
 }
