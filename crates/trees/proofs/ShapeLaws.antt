@@ -3,7 +3,7 @@ use mathlib.Core.Path.{◌≡◌, refl, sym, ap, ◌∙◌}
 use mathlib.Core.Bool.{Bool, true, false}
 use mathlib.Core.Logic.{◌⊎◌, ⊎_elim}
 use Prim.Native.Nat.{ℕ, zero, suc, ◌+◌, ◌*◌, ◌-◌, ◌/◌, ◌^◌, ◌≤◌, ◌<◌}
-use native.Mathlib.Nat.{pow-le-pow_left, pow-le-pow_right, not-suc-le-zero, suc-ne-zero, pow-succ', pow-zero, mul-one, mul-add, mul_left_comm, mul-div_right, mul-le-mul_left, one-le-pow}
+use native.Mathlib.Nat.{pow-le-pow_left, pow-le-pow_right, not-suc-le-zero, suc-ne-zero, pow-succ', pow-zero, mul-one, mul-add, mul_left_comm, mul-div_right, mul-le-mul_left, mul_comm, one-le-pow}
 use native.Mathlib.Omega.{arith}
 use lib.Dec.{ltb, eqb}
 use borrow.Author.Tests.{eqb-true, eqb-false, ltb-true, ltb-false, lt-ltb, le-ltb}
@@ -72,6 +72,26 @@ power_fits m t (suc n) hm lo few le lt = go (eqb (m ^ suc n) t) refl
         let a : m ^ suc h ≤ m ^ suc n = pow-le-pow_right (omega arith) (omega arith) in
         eqb-false (m ^ suc n) t e (omega arith))
         (le_or_lt (suc n) h))) refl
+
+-- a power of m that is not above t
+pub record Power (m t power : ℕ) : Type 0 where
+  pub exponent : ℕ
+  pub is : power ≡ m ^ exponent
+  pub under : power ≤ t
+
+pub first_power : (m t : ℕ) → m ≤ t → Power m t m
+first_power m t h = record { exponent = 1; is = sym (pow-succ' m 0 ∙ ap (λ (x : ℕ). m * x) (pow-zero m) ∙ mul-one m); under = h }
+
+pub next_power : (m t power : ℕ) → power * m ≤ t → Power m t power → Power m t (power * m)
+next_power m t power h p = record { exponent = suc p.exponent; is = ap (λ (x : ℕ). x * m) p.is ∙ mul_comm (m ^ p.exponent) m ∙ sym (pow-succ' m p.exponent); under = h }
+
+pub power_grows : (m t power : ℕ) → 2 ≤ m → power * m ≤ t → Power m t power → t - power * m < t - power
+power_grows m t power hm le p = omega (arith, le, mul-le-mul_left power hm, one-le-pow p.exponent m (omega arith), p.is)
+
+-- behind the largest one
+pub last_power : (m t power : ℕ) → 2 ≤ m → m ≤ t → t ≤ 1024 → t < power * m → Power m t power → eqb power t ≡ ltb 0 (height_of m t)
+last_power m t power hm lo few above p =
+    rw p.is (power_fits m t p.exponent hm lo few (omega (arith, p.is, p.under)) (omega (arith, mul_comm m (m ^ p.exponent), ap (λ (x : ℕ). x * m) p.is)))
 
 -- none is there below m or above the limit
 pub height_outside : (m t : ℕ) → 2 ≤ m → (t < m) ⊎ (1024 < t) → false ≡ ltb 0 (height_of m t)
