@@ -8,7 +8,7 @@ use Rattle.std.proofs.lemmas.List.{take_all, take_more, take_more_set}
 use Rattle.records.specs.Table.{laid_over}
 
 module _ {A : Type 0} where
-  over_nil : (ys : List A) → laid_over [] ys ≡ []
+  pub over_nil : (ys : List A) → laid_over [] ys ≡ []
   over_nil [] = refl
   over_nil (y ∷ ys) = refl
 
@@ -19,7 +19,7 @@ module _ {A : Type 0} where
       take_more_set out i (get_or target i d) h ∙ ap (λ (l : List A). l ++ (get_or target i d ∷ [])) e ∙ sym (take_more target i d g)
 
   -- as many as there is room for, and what stands behind them
-  over_parts : (xs ys : List A) (n : ℕ) → n ≡ min (length xs) (length ys) → take n ys ++ drop n xs ≡ laid_over xs ys
+  pub over_parts : (xs ys : List A) (n : ℕ) → n ≡ min (length xs) (length ys) → take n ys ++ drop n xs ≡ laid_over xs ys
   over_parts xs [] zero h = refl
   over_parts xs [] (suc n) h = absurd (omega arith)
   over_parts [] (y ∷ ys) zero h = refl

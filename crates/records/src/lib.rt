@@ -10,6 +10,26 @@ ghost use Rattle.records.specs.Table.{laid_over};
 
 use messages::{BLANK, Message};
 
+// The lent records, as far as there is room, in a table that is zero behind them.
+pub fn load(list: &[Message]) -> [Message; 512]
+    ensures { result ≡ laid_over (replicate 512 blank) list.now }
+{
+    let mut table = [BLANK; 512];
+    let count = list.len().min(512);
+    table[..count].copy_from_slice(&list[..count]);
+    table
+}
+
+// The table's records in the places of the lent list; a list that is longer keeps its own behind them.
+pub fn store(list: &mut [Message], table: [Message; 512])
+    ensures { list.new ≡ laid_over list.old table }
+{
+    let count = list.len().min(512);
+    for (i, place) in list[..count].iter_mut().enumerate() {
+        *place = table[i];
+    }
+}
+
 // The number at place i; 0 where the field has none.
 fn number_at(field: &[u32], i: usize) -> u32
     ensures { result ≡ slice_index field.now i }
