@@ -24,8 +24,8 @@
  *
  * What a caller owes: a pointer with a count is that many items, aligned as C has it, that nobody else writes during
  * the call; two buffers of one call do not overlap; where a count is 0 the pointer is not followed, but it is not null.
- * No function keeps a pointer, allocates, or calls anything but memcpy, memmove and memset, and any number of threads may
- * call at once with buffers of their own. docs/PERFORMANCE.md has the stack that each wants.
+ * No function keeps a pointer, allocates, or calls anything but memcpy and memset, and any number of threads may call
+ * at once with buffers of their own. docs/PERFORMANCE.md has the stack that each wants.
  */
 #ifndef MIRVUTTU_H
 #define MIRVUTTU_H

@@ -8,7 +8,7 @@ ghost use Rattle.refusals.specs.Numbers.{number_of};
 ghost use Rattle.wire.specs.Answer.{ended, reading_of};
 ghost use Rattle.numbers.specs.Decimal.{decimal};
 ghost use Rattle.printing.specs.Report.{column, phase_letter, state_letter, message_text, row_text};
-ghost use Rattle.printing.specs.Report.{figures_text, refused_text};
+ghost use Rattle.printing.specs.Report.{end_text, figures_text, refused_text};
 ghost use Rattle.printing.specs.Work.{Put, Grown, RowsPut, TablePut, RunPut, ReportReady, Reported};
 
 use refusals::Refusal;
@@ -111,6 +111,20 @@ impl Text<'_> {
         }
     }
 
+    // The word that says how a run ended: at most 7 bytes.
+    // Each word has a length of its own, so that no archive for C calls for a copy of unknown length.
+    fn put_end(&mut self, done: bool)
+        requires { self.old.at + 7 ≤ length self.old.output.now }
+        ensures grown { Grown self.old (end_text done) self.new }
+        ensures short { self.new.at ≤ self.old.at + 7 }
+    {
+        if done {
+            self.put(b"done ");
+        } else {
+            self.put(b"budget ");
+        }
+    }
+
     // The closing figures: at most 44 bytes.
     fn put_figures(&mut self, figures: Figures)
         requires { self.old.at + 44 ≤ length self.old.output.now }
@@ -135,15 +149,14 @@ pub fn put_table(output: &mut [u8], log: &[u8], rows: usize) -> usize
     text.at
 }
 
-// A run that was not refused: the table of its log, and the closing line, which begins with the word for its end.
-fn put_run(output: &mut [u8], log: &[u8], end: &[u8], figures: Figures) -> usize
-    requires room { (100 + 60 * figures.events ≤ length output.old) × (16 * figures.events ≤ length log.now) }
-    requires word { length end.now ≤ 7 }
-    ensures { RunPut output.old log.now end.now figures result output.new }
+// A run that was not refused: the table of its log and the closing line.
+fn put_run(output: &mut [u8], log: &[u8], done: bool, figures: Figures) -> usize
+    requires { (100 + 60 * figures.events ≤ length output.old) × (16 * figures.events ≤ length log.now) }
+    ensures { RunPut output.old log.now (end_text done) figures result output.new }
 {
     let at = put_table(output, log, figures.events as usize);
     let mut text = Text { output, at };
-    text.put(end);
+    text.put_end(done);
     text.put_figures(figures);
     text.at
 }
@@ -165,8 +178,8 @@ pub fn put_report(output: &mut [u8], log: &[u8], outcome: Result<Outcome, Refusa
     ensures { Reported output.old log.now outcome result output.new }
 {
     match outcome {
-        Ok(Outcome::Done(figures)) => put_run(output, log, b"done ", figures),
-        Ok(Outcome::Spent(figures)) => put_run(output, log, b"budget ", figures),
+        Ok(Outcome::Done(figures)) => put_run(output, log, true, figures),
+        Ok(Outcome::Spent(figures)) => put_run(output, log, false, figures),
         Err(refusal) => put_refusal(output, refusal),
     }
 }
