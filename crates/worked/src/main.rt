@@ -1,11 +1,23 @@
 // Worked: the calls on trees by themselves. It searches the tree with two branches and four leaves, leaves 0 and 1
 // active, and prints the log; then some worst counts; then two trees that are refused.
 // What it prints is held to docs/RULES.md by the file stdout, which was written from the rules and not from a run.
-// Uses searches, counts and printing.
-// A write that fails is passed over.
+// Uses refusals, searches, counts and printing.
 #![tactic(auto)]
 
 ghost use Rattle.std.specs.Prelude.{◌*◌, ◌≤◌, length};
+
+use refusals::Refusal;
+use std::fmt::Display;
+
+// A piece of a line, by a write of its own: one that fails is passed over, and costs this piece alone.
+fn put<D: Display + Drop>(rt: &impl Print, piece: D) {
+    let _ = rt.print(piece);
+}
+
+fn put_refusal(rt: &impl Print, refusal: Refusal) {
+    put(rt, "refused ");
+    put(rt, refusals::number(refusal));
+}
 
 // The table of a log with at most seven rows.
 fn show_log(rt: &impl Print, log: &[u8], rows: u32)
@@ -23,27 +35,29 @@ fn show_search(rt: &impl Print) {
     match searches::search(2, 4, &leaves, &mut log) {
         Ok(found) => {
             show_log(rt, &log, found.rows);
-            let _ = println!(rt;
-                "rows {}, silences {}, collisions {}",
-                found.rows, found.silences, found.collisions
-            );
+            put(rt, "rows ");
+            put(rt, found.rows);
+            put(rt, ", silences ");
+            put(rt, found.silences);
+            put(rt, ", collisions ");
+            put(rt, found.collisions);
+            put(rt, "\n");
         }
-        Err(refusal) => {
-            let _ = print!(rt; "{refusal}");
-        }
+        Err(refusal) => put_refusal(rt, refusal),
     }
 }
 
 fn show_count(rt: &impl Print, m: u32, t: u32, k: u32) {
-    let _ = print!(rt; "m {m}, t {t}, k {k}: ");
-    match counts::worst_count(m, t, k) {
-        Ok(slots) => {
-            let _ = println!(rt; "{slots}");
-        }
-        Err(refusal) => {
-            let _ = println!(rt; "{refusal}");
-        }
+    for (word, number) in [("m ", m), (", t ", t), (", k ", k)] {
+        put(rt, word);
+        put(rt, number);
     }
+    put(rt, ": ");
+    match counts::worst_count(m, t, k) {
+        Ok(slots) => put(rt, slots),
+        Err(refusal) => put_refusal(rt, refusal),
+    }
+    put(rt, "\n");
 }
 
 fn main(rt: HostRuntime) {
