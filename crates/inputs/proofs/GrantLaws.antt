@@ -1,5 +1,5 @@
 -- What a granted run may rely on.
-use mathlib.Core.Path.{◌≡◌, refl}
+use mathlib.Core.Path.{◌≡◌, refl, ap, ◌∙◌}
 use mathlib.Core.Bool.{Bool, true, false, ◌&&◌, ◌||◌}
 use mathlib.Core.List.{List, [], ◌∷◌}
 use Prim.Native.Nat.{ℕ, zero, suc, ◌*◌, ◌≤◌, ◌<◌}
@@ -7,8 +7,10 @@ use native.Mathlib.Omega.{arith}
 use lib.Dec.{ltb, leb, eqb}
 use lib.ListN.{length, get_or}
 use borrow.Author.Tests.{leb-true, ltb-true, eqb-true}
+use Rattle.std.specs.Prelude.{Ok, Err}
+use Rattle.refusals.specs.declared.Refusal.{Refusal}
 use Rattle.refusals.specs.declared.Refusal.TheVariants.{Stations, ClassNumbers, IndexTable, Messages, Budget, LogRoom}
-use Rattle.refusals.specs.Numbers.{granted, within}
+use Rattle.refusals.specs.Numbers.{Verdict, granted, within, ask, and_then}
 use Rattle.refusals.proofs.Verdicts.{ask_granted, then_granted, both, within_true}
 use Rattle.trees.specs.Shape.{tree_verdict}
 use Rattle.trees.proofs.ShapeLaws.{grown}
@@ -21,7 +23,7 @@ use Rattle.classes.proofs.VerdictLaws.{fitting}
 use Rattle.phases.specs.declared.Shop.{Shop}
 use Rattle.phases.specs.Work.{Grown, Sound}
 use Rattle.inputs.proofs.TableLaws.{length_table}
-use Rattle.inputs.specs.Inputs.{SmallOwners, table_of, same_lengths, class_numbers, is_owner, are_owners, table_fits, message_fits, all_fit, messages_fit, shop_verdict, run_verdict}
+use Rattle.inputs.specs.Inputs.{SmallOwners, table_of, same_lengths, class_numbers, is_owner, are_owners, table_fits, message_fits, all_fit, messages_fit, shop_verdict, budget_verdict, setup_verdict, list_verdict, run_verdict}
 
 -- ---- a tree, an owner, a message
 
@@ -62,6 +64,24 @@ timed_lasting z (m ∷ ms) e zero h = timed_message z m (both (message_fits z m)
 timed_lasting z (m ∷ ms) e (suc i) h = timed_lasting z ms (both (message_fits z m) (all_fit z ms) e).1 i (omega arith)
 
 -- ---- the run
+
+-- three verdicts before another, taken as one
+then_then : (a b c v : Verdict) → and_then a (and_then b (and_then c v)) ≡ and_then (and_then a (and_then b c)) v
+then_then (Ok _) (Ok _) c v = refl
+then_then (Ok _) (Err k) c v = refl
+then_then (Err k) b c v = refl
+
+-- two tests of one refusal
+ask_both : (a b : Bool) (r : Refusal) (v : Verdict) → ask (a && b) r v ≡ ask a r (ask b r v)
+ask_both true b r v = refl
+ask_both false b r v = refl
+
+-- THE VERDICT ON A RUN is the setup's, and then the list's, if it came whole
+pub in_two : (S : Shop) (owners : List ℕ) (whole : Bool) (ms : List Message) (budget room : ℕ)
+    → run_verdict S owners whole ms budget room ≡ and_then (setup_verdict S owners) (ask whole Messages (list_verdict S.stations ms budget room))
+in_two S owners whole ms budget room =
+    then_then (tree_verdict S.time.branches S.time.leaves) (tree_verdict S.index.branches S.index.leaves) (shop_verdict S owners) _
+    ∙ ap (and_then (setup_verdict S owners)) (ask_both whole (messages_fit S.stations ms) Messages (budget_verdict budget room))
 
 -- each test of a run was passed
 pub record Passed (S : Shop) (owners : List ℕ) (whole : Bool) (ms : List Message) (budget bytes : ℕ) : Type 0 where

@@ -11,6 +11,8 @@
 --   same_lengths ..       the slices of the fields are of one length
 --   shop_verdict S owners  refusals 6, 7 and 8
 --   budget_verdict budget room  refusals 10 and 11
+--   setup_verdict S owners  the refusals of the trees, and then 6, 7 and 8: those that ask nothing of the messages
+--   list_verdict z ms budget room  refusals 9, 10 and 11, of a list that came whole
 --   run_verdict ..        the refusals of a run, in their order
 --   table_of owners        1,024 places that begin free, with the owners copied in
 --   SmallOwners owners    what copying them in asks
@@ -85,6 +87,17 @@ budget_verdict budget room =
     ask (within 1 1000000 budget) Budget
     (ask (leb (16 * budget) room) LogRoom
     granted)
+
+-- the two trees, and the rest of the shop with its index table
+abbrev pub setup_verdict : Shop → List ℕ → Verdict
+setup_verdict S owners =
+    and_then (tree_verdict S.time.branches S.time.leaves)
+    (and_then (tree_verdict S.index.branches S.index.leaves)
+    (shop_verdict S owners))
+
+-- messages, budget and log
+abbrev pub list_verdict : ℕ → List Message → ℕ → ℕ → Verdict
+list_verdict z ms budget room = ask (messages_fit z ms) Messages (budget_verdict budget room)
 
 -- the tests in their order; `whole` is whether the list of messages came whole
 abbrev pub run_verdict : Shop → List ℕ → Bool → List Message → ℕ → ℕ → Verdict

@@ -6,7 +6,7 @@
 ghost use Rattle.std.specs.Prelude.{◌≡◌, ◌≤◌, length};
 ghost use Rattle.inputs.specs.Inputs.{class_numbers, is_owner, are_owners, holds, all_own, table_fits};
 ghost use Rattle.inputs.specs.Inputs.{message_fits, all_fit, messages_fit, shop_verdict, budget_verdict};
-ghost use Rattle.inputs.specs.Inputs.{run_verdict, table_of, SmallOwners};
+ghost use Rattle.inputs.specs.Inputs.{setup_verdict, list_verdict, run_verdict, table_of, SmallOwners};
 
 use messages::Message;
 use phases::Shop;
@@ -124,6 +124,25 @@ fn budget_verdict(budget: u32, room: usize) -> Verdict
     Ok(())
 }
 
+// The refusals of the trees, and then 6, 7 and 8: those that ask nothing of the messages.
+pub fn setup_verdict(shop: Shop, owners: &[u32]) -> Verdict
+    ensures { result ≡ setup_verdict shop owners.now }
+{
+    trees::tree_verdict(shop.time.branches, shop.time.leaves)?;
+    trees::tree_verdict(shop.index.branches, shop.index.leaves)?;
+    shop_verdict(shop, owners)
+}
+
+// Refusals 9, 10 and 11, of a list that came whole.
+pub fn list_verdict(stations: u32, list: &[Message], budget: u32, room: usize) -> Verdict
+    ensures { result ≡ list_verdict stations list.now budget room }
+{
+    if !messages_fit(list, stations) {
+        return Err(Refusal::Messages);
+    }
+    budget_verdict(budget, room)
+}
+
 // The refusals of a run, in their order; `whole` is whether the list of messages came whole.
 pub fn run_verdict(
     shop: Shop,
@@ -135,11 +154,9 @@ pub fn run_verdict(
 ) -> Verdict
     ensures { result ≡ run_verdict shop owners.now whole list.now budget room }
 {
-    trees::tree_verdict(shop.time.branches, shop.time.leaves)?;
-    trees::tree_verdict(shop.index.branches, shop.index.leaves)?;
-    shop_verdict(shop, owners)?;
-    if !(whole && messages_fit(list, shop.stations)) {
+    setup_verdict(shop, owners)?;
+    if !whole {
         return Err(Refusal::Messages);
     }
-    budget_verdict(budget, room)
+    list_verdict(shop.stations, list, budget, room)
 }

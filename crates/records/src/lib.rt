@@ -37,19 +37,19 @@ fn number_at(field: &[u32], i: usize) -> u32
     field.get(i).copied().unwrap_or(0)
 }
 
-// A record for each station, as far as there is room, in a table that is zero behind them.
-pub fn records_of(
+// A record for each station, as far as there is room; behind them the table is as it came.
+pub fn put_records(
+    table: &mut [Message],
     stations: &[u32],
     arrivals: &[u32],
     relatives: &[u32],
     lengths: &[u32],
     sent: &[u32],
-) -> [Message; 512]
-    ensures { result ≡ laid_over (replicate 512 blank) (listed stations.now arrivals.now
+)
+    ensures { table.new ≡ laid_over table.old (listed stations.now arrivals.now
         relatives.now lengths.now sent.now) }
 {
-    let mut table = [BLANK; 512];
-    let count = stations.len().min(512);
+    let count = stations.len().min(table.len());
     for (i, place) in table[..count].iter_mut().enumerate() {
         *place = Message {
             station: stations[i],
@@ -59,7 +59,6 @@ pub fn records_of(
             sent: number_at(sent, i),
         };
     }
-    table
 }
 
 // The slots of sending of the table's records; a list that is longer keeps its own behind them.

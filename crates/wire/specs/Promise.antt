@@ -1,6 +1,7 @@
 -- What a run promises, whatever numbers and lists it is given.
 --
 --   ListPromise ..    over a list of messages: the reading, the whole list and the whole log at exit are the definition's
+--   GrantedPromise .. of a list of messages that nothing refuses: the same three are those of the run
 --   RunPromise ..     over a slice for each field: the reading, the slots of sending and the whole log are
 --   reading_tells     the reading tells the answer
 --   one_result        two results that the promise allows for one input are equal
@@ -8,6 +9,7 @@ use Rattle.std.specs.Prelude.{◌≡◌, Bool, true, false, List, ℕ, length, R
 use Rattle.std.proofs.Common.{sym, ap, ◌∙◌, arith}
 use Rattle.refusals.specs.declared.Refusal.{Refusal}
 use Rattle.refusals.proofs.Verdicts.{number_tells, number_some}
+use Rattle.rows.specs.Log.{over, log_bytes}
 use Rattle.messages.specs.declared.Message.{Message}
 use Rattle.messages.specs.Lists.{listed}
 use Rattle.phases.specs.declared.Shop.{Shop}
@@ -15,13 +17,19 @@ use Rattle.inputs.specs.Inputs.{same_lengths, run_verdict}
 use Rattle.wire.specs.declared.Figures.{Figures}
 use Rattle.wire.specs.declared.Outcome.{Outcome}
 use Rattle.wire.specs.declared.Outcome.TheVariants.{Done, Spent}
-use Rattle.wire.specs.Answer.{Reading, ended, reading_of, reading_by, messages_by, marks_by, log_by, ran_of}
+use Rattle.wire.specs.Answer.{Reading, ended, reading_of, closing, reading_by, messages_by, marks_by, log_by, ran_of}
 
 -- each part an equation with a definition: by the verdict on the inputs, of the run that they make
 pub record ListPromise (S : Shop) (owners : List ℕ) (whole : Bool) (ms : List Message) (log : List ℕ) (budget : ℕ) (answer : Result Outcome Refusal) (ms' : List Message) (log' : List ℕ) : Type 0 where
   pub read : reading_of answer ≡ reading_by (run_verdict S owners whole ms budget (length log)) (ran_of S owners ms budget)
   pub left : ms' ≡ messages_by (run_verdict S owners whole ms budget (length log)) (ran_of S owners ms budget) ms
   pub logged : log' ≡ log_by (run_verdict S owners whole ms budget (length log)) (ran_of S owners ms budget) log
+
+-- each part as the run that the inputs make leaves it
+pub record GrantedPromise (S : Shop) (owners : List ℕ) (ms : List Message) (log : List ℕ) (budget : ℕ) (outcome : Outcome) (ms' : List Message) (log' : List ℕ) : Type 0 where
+  pub read : reading_of (Ok outcome) ≡ closing (ran_of S owners ms budget)
+  pub left : ms' ≡ (ran_of S owners ms budget).1.messages
+  pub logged : log' ≡ over log 0 (log_bytes (ran_of S owners ms budget).0)
 
 -- the list comes whole where the slices are of one length
 pub record RunPromise (S : Shop) (owners stations arrivals relatives lengths sent log : List ℕ) (budget : ℕ) (answer : Result Outcome Refusal) (sent' log' : List ℕ) : Type 0 where

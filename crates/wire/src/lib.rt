@@ -1,12 +1,15 @@
 // Wire: the run of a shop, slot by slot, on plain numbers and a lent list of messages (docs/RULES.md, section 10).
-// `run_list` is what the calls over records and over fields make: it takes whatever it is given and refuses what is bad.
+// `run_list` is what the calls over records make: it takes whatever it is given and refuses what is bad. The call over
+// fields asks the same tests itself, in two parts, and makes `run_granted`.
 // Uses refusals, rows, trees, messages, phases, contention, inputs and events.
 #![tactic(auto)]
 
-ghost use Rattle.std.specs.Prelude.{◌≡◌};
+ghost use Rattle.std.specs.Prelude.{◌≡◌, true, length};
+ghost use Rattle.refusals.specs.Numbers.{granted};
 ghost use Rattle.messages.specs.Lists.{Runnable, Timed};
+ghost use Rattle.inputs.specs.Inputs.{run_verdict};
 ghost use Rattle.wire.specs.Run.{was_late, sent_count, late_count};
-ghost use Rattle.wire.specs.Promise.{ListPromise};
+ghost use Rattle.wire.specs.Promise.{ListPromise, GrantedPromise};
 ghost use Rattle.wire.specs.Work.{RunReady, Ran};
 
 use messages::Message;
@@ -84,6 +87,35 @@ fn run_events(
     (budget, state.slot)
 }
 
+// A run that no test refuses: a row for each event in the log, the slot of sending of each message that was sent, and
+// the closing figures.
+pub fn run_granted(
+    shop: Shop,
+    owners: &[u32],
+    list: &mut [Message],
+    log: &mut [u8],
+    budget: u32,
+) -> Outcome
+    requires { run_verdict shop owners.now true list.old budget (length log.old) ≡ granted }
+    ensures { GrantedPromise shop owners.now list.old log.old budget result list.new log.new }
+{
+    let table = inputs::owner_table(owners);
+    messages::clear_sent(list);
+    let (events, slot) = run_events(shop, &table, list, log, budget);
+    let figures = Figures {
+        events,
+        slot,
+        sent: sent_count(list),
+        late: late_count(list),
+    };
+    let done = messages::all_sent(list);
+    if done {
+        Outcome::Done(figures)
+    } else {
+        Outcome::Spent(figures)
+    }
+}
+
 // A run of the shop: a row for each event in the log, the slot of sending of each message that was sent, and the
 // closing figures; or a refusal, and list and log as they came.
 // `whole` is whether the list of messages came whole: one that did not is refused in its turn, behind other refusals.
@@ -98,19 +130,5 @@ pub fn run_list(
     ensures { ListPromise shop owners.now whole list.old log.old budget result list.new log.new }
 {
     inputs::run_verdict(shop, owners, whole, list, budget, log.len())?;
-    let table = inputs::owner_table(owners);
-    messages::clear_sent(list);
-    let (events, slot) = run_events(shop, &table, list, log, budget);
-    let figures = Figures {
-        events,
-        slot,
-        sent: sent_count(list),
-        late: late_count(list),
-    };
-    let done = messages::all_sent(list);
-    Ok(if done {
-        Outcome::Done(figures)
-    } else {
-        Outcome::Spent(figures)
-    })
+    Ok(run_granted(shop, owners, list, log, budget))
 }

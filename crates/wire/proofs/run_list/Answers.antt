@@ -1,11 +1,13 @@
--- A granted run clears the marks and makes its events.
-use Rattle.std.proofs.Common.{sym, ◌∙◌, arith}
-use Rattle.messages.proofs.ListLaws.{runnable_fresh}
+-- A list that is granted came whole.
+use Rattle.std.proofs.Common.{sym, ◌∙◌, subst, length}
+use Rattle.std.specs.Prelude.{◌≡◌, Bool}
+use Rattle.refusals.specs.Numbers.{granted}
+use Rattle.inputs.specs.Inputs.{run_verdict}
 use Rattle.inputs.proofs.GrantLaws.{allowed}
 use Rattle.wire.proofs.run_list.Goals as goal
 
-pub run_events-events-requires : goal.run_events-events-requires
-run_events-events-requires c =
+pub run_granted-requires : goal.run_granted-requires
+run_granted-requires c =
     let s = c.args in
-    let ok = allowed s.shop s.owners.now s.whole s.list.now s.budget _ (sym c.run_verdict.ensures ∙ c.in_ok-run_verdict.was) in
-    record { sound = ok.sound; runnable = rw c.clear_sent.ensures (runnable_fresh s.list.now ok.runnable); few = ok.few; room = omega (arith, ok.room) }
+    let e = sym c.run_verdict.ensures ∙ c.in_ok-run_verdict.was in
+    subst (λ (b : Bool). run_verdict s.shop s.owners.now b s.list.now s.budget (length s.log.now) ≡ granted) (allowed s.shop s.owners.now s.whole s.list.now s.budget _ e).complete e

@@ -1,11 +1,11 @@
--- One place more holds its record; behind the last the table is blank.
-use Rattle.std.proofs.Common.{arith, replicate}
+-- One place more holds its record; behind the last the table is as it came.
+use Rattle.std.proofs.Common.{arith}
 use Rattle.std.proofs.lemmas.Grind.{common_steps}
 use Rattle.messages.specs.Message.{blank}
 use Rattle.messages.specs.Lists.{listed}
 use Rattle.messages.proofs.ListLaws.{length_listed, listed_at}
 use Rattle.records.proofs.Laws.{place_more, over_filled}
-use Rattle.records.proofs.records_of.Goals as goal
+use Rattle.records.proofs.put_records.Goals as goal
 
 pub loop-i-preserved : goal.loop-i-preserved
 loop-i-preserved c =
@@ -21,5 +21,5 @@ pub returns : goal.returns
 returns c =
     let s = c.args in
     let many = length_listed s.stations.now s.arrivals.now s.relatives.now s.lengths.now s.sent.now in
-    over_filled (replicate 512 blank) (listed s.stations.now s.arrivals.now s.relatives.now s.lengths.now s.sent.now) c.loop-i.place-items c.min-count.result c.loop-i.i
+    over_filled c.args.table.now (listed s.stations.now s.arrivals.now s.relatives.now s.lengths.now s.sent.now) c.loop-i.place-items c.min-count.result c.loop-i.i
     (grind (arith, common_steps)) (grind (arith, common_steps)) (grind (arith, common_steps)) (c.loop-i.invariant)
