@@ -20,7 +20,7 @@ module _ (m t k : ℕ) (e : count_verdict m t k ≡ granted) where
   pub granted_tree : Grown m t
   granted_tree = grown m t (then_granted (tree_verdict m t) (ask (leb k t) ActiveCount granted) e).0
 
-  granted_k : k ≤ t
+  pub granted_k : k ≤ t
   granted_k = leb-true k t (ask_granted (leb k t) ActiveCount granted (then_granted (tree_verdict m t) (ask (leb k t) ActiveCount granted) e).1).0
 
   -- the count stands at place k

@@ -45,7 +45,7 @@ logged log rs k e = record {
   front = ap (λ (n : ℕ). take (16 * n) (over log 0 (log_bytes rs))) e ∙ take_at (log_bytes rs) (drop (0 + length (log_bytes rs)) log) (16 * length rs) (length_log_bytes rs);
 }
 
-printed : (o : Result Outcome Refusal) (v : Verdict) (r : List Row × World) (log log' d : List ℕ) (n : ℕ) (d' : List ℕ) → reading_of o ≡ reading_by v r → log' ≡ log_by v r log
+pub printed : (o : Result Outcome Refusal) (v : Verdict) (r : List Row × World) (log log' d : List ℕ) (n : ℕ) (d' : List ℕ) → reading_of o ≡ reading_by v r → log' ≡ log_by v r log
     → Reported d log' o n d' → Put d 0 (report_by v r) n d'
 printed o (Ok u) r log log' d n d' e f p =
     let is : Listed log' (reading_of o).events r.0 =

@@ -15,7 +15,7 @@ use Rattle.refusals.proofs.Verdicts.{fails_behind}
 use Rattle.numbers.specs.Decimal.{all_digits, value_from, value_of, is_number, number_in}
 
 -- what is read only grows
-value_grows : (v : ℕ) (bytes : List ℕ) → v ≤ value_from v bytes
+pub value_grows : (v : ℕ) (bytes : List ℕ) → v ≤ value_from v bytes
 value_grows v [] = omega arith
 value_grows v (b ∷ bytes) = omega (arith, value_grows (10 * v + (b - 48)) bytes)
 

@@ -17,12 +17,12 @@ use Rattle.searches.specs.Answer.{search_verdict}
 use Rattle.searches.specs.Work.{VisitReady}
 
 -- what the tests say
-record Sound (m t : ℕ) (leaves : List ℕ) (room : ℕ) : Type 0 where
+pub record Sound (m t : ℕ) (leaves : List ℕ) (room : ℕ) : Type 0 where
   pub tree : Grown m t
   pub all : length leaves ≡ t
   pub fits : 16 * nodes m (suc tree.under) ≤ room
 
-sound : (m t : ℕ) (leaves : List ℕ) (room : ℕ) → granted ≡ search_verdict m t leaves room → Sound m t leaves room
+pub sound : (m t : ℕ) (leaves : List ℕ) (room : ℕ) → granted ≡ search_verdict m t leaves room → Sound m t leaves room
 sound m t leaves room e =
     let a = then_granted (tree_verdict m t) _ (sym e) in
     let b = ask_granted (eqb (length leaves) t) LeafList _ a.1 in
