@@ -1,5 +1,5 @@
-// Records: a list of messages that is lent field by field, copied into a table of 512 records, and its slots of sending
-// copied back (docs/RULES.md, section 8).
+// Records: a list of messages that is lent field by field, copied into a lent table of records, and its slots of sending
+// copied back; and a lent list of records, copied into a table of 512 and back (docs/RULES.md, section 8).
 // Uses messages.
 #![tactic(auto)]
 

@@ -6,7 +6,8 @@ use Prim.Native.Nat.{ℕ, ◌≤◌}
 use native.Mathlib.Omega.{arith}
 use lib.Dec.{leb, eqb}
 use lib.ListN.{length, take, drop, length-map}
-use borrow.Author.Tests.{leb-true, eqb-true}
+use borrow.Author.Tests.{eqb-true}
+use Rattle.std.proofs.lemmas.List.{take_all}
 use Rattle.std.specs.Prelude.{Ok, Err}
 use Rattle.refusals.specs.declared.Refusal.{Refusal}
 use Rattle.refusals.specs.declared.Refusal.TheVariants.{Messages}
@@ -37,6 +38,20 @@ not_whole : (few same fit : Bool) (v : Verdict) → false ≡ (few && same) → 
 not_whole few false fit v e = refl
 not_whole false true fit v e = refl
 not_whole true true fit v e = cc
+
+-- of fields that make a list, as many as there are stations are all
+pub cut_whole : (stations arrivals relatives lengths sent : List ℕ) → true ≡ (leb (length stations) 512 && same_lengths stations arrivals relatives lengths sent)
+    → listed stations (take (length stations) arrivals) (take (length stations) relatives) (take (length stations) lengths) (take (length stations) sent)
+    ≡ listed stations arrivals relatives lengths sent
+cut_whole stations arrivals relatives lengths sent whole =
+    let w = both (leb (length stations) 512) (same_lengths stations arrivals relatives lengths sent) (sym whole) in
+    let a = both (eqb (length arrivals) (length stations)) _ w.1 in
+    let r = both (eqb (length relatives) (length stations)) _ a.1 in
+    let l = both (eqb (length lengths) (length stations)) (eqb (length sent) (length stations)) r.1 in
+    rw (all arrivals a.0, all relatives r.0, all lengths l.0, all sent l.1) refl
+  where
+    all : (xs : List ℕ) → eqb (length xs) (length stations) ≡ true → take (length stations) xs ≡ xs
+    all xs e = take_all (length stations) xs (omega (arith, eqb-true (length xs) (length stations) e))
 
 -- ---- the run
 
@@ -72,7 +87,7 @@ module _ (S : Shop) (owners stations arrivals relatives lengths sent log : List 
         ∙ ap (λ (n : ℕ). ask same Messages (ask (leb n 512 && all_fit S.stations list) Messages (budget_verdict budget (length log)))) (length_listed stations arrivals relatives lengths sent)
         ∙ not_whole (leb (length stations) 512) same (all_fit S.stations list) (budget_verdict budget (length log)) short)
 
-    module _ (whole : true ≡ (leb (length stations) 512 && same)) (old : List Message) (room : length stations ≤ 512 → length stations ≤ length old) (table : List Message) (loaded : table ≡ laid_over old list) where
+    module _ (whole : true ≡ (leb (length stations) 512 && same)) (old : List Message) (room : length stations ≤ length old) (table : List Message) (loaded : table ≡ laid_over old list) where
       tests : (leb (length stations) 512 ≡ true) × (same ≡ true)
       tests = both (leb (length stations) 512) same (sym whole)
 
@@ -81,7 +96,7 @@ module _ (S : Shop) (owners stations arrivals relatives lengths sent log : List 
 
       lent : take (length stations) table ≡ list
       lent = ap (take (length stations)) loaded ∙ ap (λ (n : ℕ). take n (laid_over old list)) (sym many)
-          ∙ take_over old list (omega (arith, many, room (leb-true (length stations) 512 tests.0)))
+          ∙ take_over old list (omega (arith, many, room))
 
       -- the verdict is that on the table's records
       judged : (v : Verdict) → list_verdict S.stations (take (length stations) table) budget (length log) ≡ v → verdict ≡ v

@@ -34,7 +34,7 @@ fn is_whole(
         && sent.len() == count
 }
 
-// The run over the fields, copied into a table that has room for each list that a run can take.
+// The run over fields that make a list, copied into a table that has room for it.
 fn run_in(
     table: &mut [Message],
     shop: Shop,
@@ -48,16 +48,24 @@ fn run_in(
     budget: u32,
 ) -> Result<Outcome, Refusal>
     requires set { setup_verdict shop owners.now ≡ granted }
-    requires room { length stations.now ≤ 512 → length stations.now ≤ length table.old }
+    requires whole { true ≡ (nat_le (length stations.now) 512
+        && same_lengths stations.now arrivals.now relatives.now lengths.now sent.old) }
+    requires room { length stations.now ≤ length table.old }
     ensures { RunPromise shop owners.now stations.now arrivals.now
         relatives.now lengths.now sent.old log.old budget result
         sent.new log.new }
 {
-    if !is_whole(stations, arrivals, relatives, lengths, sent) {
-        return Err(Refusal::Messages);
-    }
-    records::put_records(table, stations, arrivals, relatives, lengths, sent);
-    let list = &mut table[..stations.len()];
+    // As many of each as there are stations, which is all of it: the copy is quicker for knowing that.
+    let count = stations.len();
+    records::put_records(
+        table,
+        stations,
+        &arrivals[..count],
+        &relatives[..count],
+        &lengths[..count],
+        &sent[..count],
+    );
+    let list = &mut table[..count];
     inputs::list_verdict(shop.stations, list, budget, log.len())?;
     let outcome = wire::run_granted(shop, owners, list, log, budget);
     records::put_slots(sent, table);
@@ -79,7 +87,9 @@ fn run_copied<const N: usize>(
     budget: u32,
 ) -> Result<Outcome, Refusal>
     requires set { setup_verdict shop owners.now ≡ granted }
-    requires room { (length stations.now ≤ 512 → length stations.now ≤ N) × (N ≤ 512) }
+    requires whole { true ≡ (nat_le (length stations.now) 512
+        && same_lengths stations.now arrivals.now relatives.now lengths.now sent.old) }
+    requires room { (length stations.now ≤ N) × (N ≤ 512) }
     ensures { RunPromise shop owners.now stations.now arrivals.now
         relatives.now lengths.now sent.old log.old budget result
         sent.new log.new }
@@ -116,6 +126,9 @@ pub fn run_fields(
         sent.new log.new }
 {
     inputs::setup_verdict(shop, owners)?;
+    if !is_whole(stations, arrivals, relatives, lengths, sent) {
+        return Err(Refusal::Messages);
+    }
     if stations.len() <= 128 {
         run_copied::<128>(
             shop, owners, stations, arrivals, relatives, lengths, sent, log, budget,
