@@ -75,3 +75,13 @@ module _ (log : List ℕ) (b : ℕ) (q : Row) (is : take 16 (drop b log) ≡ row
       let m : message ≡ q.message = omega (arith, e₆, pair_stands 10 (omega arith)) in
       let u : used ≡ q.used = omega (arith, e₇, pair_stands 12 (omega arith)) in
       rw (s, p, c, f, w, m, u) refl
+
+-- the bytes of a row by themselves
+pub bytes_back : (bytes : List ℕ) (q : Row) → bytes ≡ row_bytes q
+    → (slot : ℕ) (phase : Phase) (state : Channel) (first width message used : ℕ)
+    → slot ≡ four bytes → PhaseBack (get_or bytes 4 0) phase → StateBack (get_or bytes 5 0) state
+    → first ≡ two_at 6 bytes → width ≡ two_at 8 bytes → message ≡ two_at 10 bytes → used ≡ two_at 12 bytes
+    → made slot phase state first width message used ≡ q
+bytes_back bytes q is slot phase state first width message used e₁ e₂ e₃ e₄ e₅ e₆ e₇ =
+    row_back bytes 0 q (ap (take 16) is) slot phase state first width message used
+    (omega (arith, e₁)) e₂ e₃ (omega (arith, e₄)) (omega (arith, e₅)) (omega (arith, e₆)) (omega (arith, e₇))
